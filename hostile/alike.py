@@ -1,10 +1,10 @@
 #!/usr/bin/env python3
-"""A server that keeps a trace and one that keeps none answer alike: alike.py PROGRAMS [REQUESTS] [SEED]
+"""A server answers what its trace replays to, and the same with a trace and without: alike.py PROGRAMS [REQUESTS] [SEED]
 
-From a seed that is printed, 10,000 random requests unless told go to both, one after another, by eight connections in any order: all
-kinds of commands, refused ones, lists of MULTI, and now and then a connection that leaves and another that comes. Without a trace a
-request that is alone is handed out at once, and with one its packets are brought; so each request gets the same reply from both, and the
-trace replays to `agree`.
+From a seed that is printed, 10,000 random requests unless told go to two servers, one after another, by eight connections in any order:
+all kinds of commands, refused ones, lists of MULTI, and now and then a connection that leaves and another that comes. A request that is
+alone is handed out at once. The replay makes each step of the trace by a call of its own; so each executed request has there the reply
+that its client got, and it ends with `agree`. Without a trace each request is answered alike.
 """
 import os
 import random
@@ -22,32 +22,52 @@ CONNECTIONS = 8
 
 
 class Both:
-    """The same connections to two servers, and what they are answered."""
+    """The same connections to two servers, and what they are answered. The first server's replies are kept by connection and request."""
 
     def __init__(self, servers):
         self.servers, self.failed = servers, []
+        self.opened, self.replies = 0, {}
         self.clients = [self.open() for _ in range(CONNECTIONS)]
 
     def open(self):
-        return [Client(server.port) for server in self.servers]
+        """A connection to each. Its first request is answered before another is opened, so that it has the next number."""
+        self.opened += 1
+        made = {"number": self.opened, "asked": 0, "clients": [Client(server.port) for server in self.servers]}
+        self.ask_at(made, [b"PING"])
+        return made
 
-    def ask(self, which, words):
+    def ask_at(self, connection, words):
         said = []
-        for client in self.clients[which]:
+        for client in connection["clients"]:
             client.send(*words)
             said.append(client.whole_reply())
+        connection["asked"] += 1
+        self.replies[b"%d.%d" % (connection["number"], connection["asked"])] = said[0] + b"\r\n"
         if said[0] != said[1]:
-            self.failed.append(f"{words} of connection {which} is answered {said[0][:80]!r} with a trace, and {said[1][:80]!r} without")
+            number = connection["number"]
+            self.failed.append(f"{words} of connection {number} is answered {said[0][:80]!r} with a trace, and {said[1][:80]!r} without")
+
+    def ask(self, which, words):
+        self.ask_at(self.clients[which], words)
 
     def leave_and_come(self, which):
-        for client in self.clients[which]:
+        for client in self.clients[which]["clients"]:
             client.close()
         self.clients[which] = self.open()
 
     def close(self):
-        for pair in self.clients:
-            for client in pair:
+        for connection in self.clients:
+            for client in connection["clients"]:
                 client.close()
+
+
+def compare(report, replies):
+    """What the rows of a report say beside what was answered: at least some, and each its own."""
+    rows = [line.split(b" ") for line in report.splitlines() if line.startswith(b"row ")]
+    other = [row for row in rows if bytes.fromhex(row[4].decode()) != replies.get(row[2])]
+    if not rows:
+        return ["no request was executed"]
+    return [f"{row[3].decode()} of request {row[2].decode()} is answered {replies.get(row[2])!r}, and replayed to {row[4][:80]!r}" for row in other[:3]]
 
 
 def ask_all(both, dice, count):
@@ -90,6 +110,7 @@ def main():
         said = subprocess.run([replay, "--table", TABLE, "--trace", trace], capture_output=True)
         if said.returncode != 0 or not said.stdout.endswith(b"agree\n"):
             faults.append(f"its trace is replayed to {said.returncode}: {said.stderr!r}")
+        faults += compare(said.stdout, both.replies)
     for fault in faults:
         print(f"  FAILED: {fault}")
     print(f"{0 if faults else 1} passed, {len(faults)} failed")

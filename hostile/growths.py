@@ -9,9 +9,8 @@ that block and all behind it, or, of a server, those of a streak.
 - `solo`: each reply is the error line for want of memory, or what a store answers that is asked the other requests alone; so too each
   place of EXEC's array.
   Where the store ends for want of memory, its replies are the beginning of such a list.
-- `server`, with one worker and with two, and without a trace, where a request that is alone is handed out at once: so too, over two
-  connections, one of which may be refused or ended, with its list; and where a trace was written, a replay of it agrees, and has a row
-  for each request that was answered by its shards.
+- `server`, with one worker and with two, and without a trace: so too, over two connections, one of which may be refused or ended, with
+  its list; and where a trace was written, a replay of it agrees, and has a row for each request that was answered by its shards.
 - `replay` and `picture`: the whole output and its status, or the status for want of memory (or for a thread).
 
 The line of each says how far N went and how many runs met a refusal; the last one is `N passed, M failed`.

@@ -36,13 +36,16 @@ SameTrace None (Some new) = ⊥
 SameTrace (Some old) None = ⊥
 SameTrace (Some old) (Some new) = (new.rest.max ≡ old.rest.max) × (new.rest.steps ≡ old.rest.steps) × (new.sent ≡ old.sent)
 
--- the step is put behind the others, where they are kept
+-- the steps are put behind the others, where they are kept
+abbrev pub ArePushed : Option Tape → List Step → Option Tape → Type 0
+ArePushed None steps None = Unit {0}
+ArePushed None steps (Some new) = ⊥
+ArePushed (Some old) steps None = ⊥
+ArePushed (Some old) steps (Some new) =
+    (new.rest.max ≡ old.rest.max) × (new.rest.steps ≡ old.rest.steps ++ steps) × (new.sent ≡ old.sent)
+
 abbrev pub IsPushed : Option Tape → Step → Option Tape → Type 0
-IsPushed None step None = Unit {0}
-IsPushed None step (Some new) = ⊥
-IsPushed (Some old) step None = ⊥
-IsPushed (Some old) step (Some new) =
-    (new.rest.max ≡ old.rest.max) × (new.rest.steps ≡ old.rest.steps ++ step ∷ []) × (new.sent ≡ old.sent)
+IsPushed old step new = ArePushed old (step ∷ []) new
 
 -- how many bytes the steps take that are kept, which is the place at which the next one begins
 abbrev pub place_of : Option Tape → ℕ

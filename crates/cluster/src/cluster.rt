@@ -296,9 +296,8 @@ impl<T: Tabled, L: Server> Cluster<T, L> {
         Ok(id)
     }
 
-    /// Submits a request of these words, as `submit` does. Where nothing is under way, and no trace is kept, a request that is alone is
-    /// brought to its groups and taken as a layer of its own, which is handed out, as by `turn` and `take`: the seat has seen its Submit
-    /// alone.
+    /// Submits a request of these words, as `submit` does. Where nothing is under way, a request that is alone is brought to its groups
+    /// and taken as a layer of its own, which is handed out, as by `turn` and `take`: the seat has seen its Submit alone.
     ///
     /// The errors are those of `submit`, and change nothing but room.
     pub fn pass(
@@ -320,7 +319,8 @@ impl<T: Tabled, L: Server> Cluster<T, L> {
                 Err(fault) => Err(fault),
             };
         }
-        let (id, seen, taken) = match self.history.pass(seat.conn, words, &seat.seen) {
+        let kept = self.kept.saturating_add(BYTES_AHEAD);
+        let (id, seen, taken) = match self.history.pass(seat.conn, words, kept, &seat.seen) {
             Ok(passed) => passed,
             Err(fault) => return Err(fault),
         };

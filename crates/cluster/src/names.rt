@@ -1,10 +1,8 @@
 //! What names a server, and which lists of its steps are legal.
 
-use groups::ConnId;
 use history::{Law, Naming, Says};
 use journal::Step;
 use layer_results::Done;
-use resp::Request;
 use serial_store::Tabled;
 use std::marker::{Brand, PhantomData};
 use std::snapshot::Snapshot;
@@ -65,15 +63,6 @@ pub struct ItsStep;
 
 impl Says<Snapshot<Step>, Step> for ItsStep {
     ghost entry = { λ made. made.value };
-}
-
-/// What is written of the Submit of a connection, whose words are gone.
-pub struct ItsSubmit;
-
-impl Says<(ConnId, Snapshot<Request>), Step> for ItsSubmit {
-    ghost use Rattle.journal.specs.declared.step.Step.TheVariants.{Submit};
-
-    ghost entry = { λ made. Submit made.0 made.1.value };
 }
 
 /// What is written of what came of a layer, which is lent: its Run, with what starved there.

@@ -1,6 +1,6 @@
 //! A front beside the history of its steps.
 
-ghost use Rattle.std.specs.Prelude.{◌≡◌, ℕ, ◌+◌, ◌≤◌, ◌<◌, ◌++◌, ◌∷◌, true, false, [], length, IfOk, IfErr, OnOk, OnErr};
+ghost use Rattle.std.specs.Prelude.{◌≡◌, ℕ, ◌+◌, ◌≤◌, ◌<◌, ◌++◌, ◌∷◌, true, false, List, [], length, IfOk, IfErr, OnOk, OnErr};
 ghost use Rattle.std.specs.Prelude.{IfSome, IfNone, None};
 ghost use mathlib.Core.List.{IsPrefix};
 ghost use Rattle.cluster.specs.Counting.{all_executed, all_starved, as_word};
@@ -15,6 +15,7 @@ ghost use Rattle.cluster.specs.declared.fault.StepFault.{StepFault};
 ghost use Rattle.front.specs.Making.{effect_shown};
 ghost use Rattle.front.specs.Passing.{packets_in};
 ghost use Rattle.front.specs.Refusing.{WantsMemory};
+ghost use Rattle.groups.specs.declared.request.ConnId.{ConnId};
 ghost use Rattle.journal.specs.Codes.{step_size};
 ghost use Rattle.journal.specs.declared.step.Step.{Step};
 ghost use Rattle.journal.specs.declared.trace.TheConstants.{GREATEST_STEPS};
@@ -24,10 +25,13 @@ ghost use Rattle.world.specs.World.{World};
 
 use super::counting::{executed_in, starved_in};
 use super::fault::StepFault;
-use super::names::{ItsRun, ItsStep, ItsSubmit, Leading, RunsOf, Server, StepsOf};
+use super::names::{ItsRun, ItsStep, Leading, RunsOf, Server, StepsOf};
 use super::pick::Pick;
 use super::sealed::{Piece, Ran, Taken};
-use super::tape::{Tape, hand_on, place, push_keeping, push_run, take_back};
+use super::tape::{
+    PACKETS_PASSED, SIZE_PASSED, Tape, hand_on, place, push_keeping, push_passed, push_run,
+    take_back,
+};
 use front::{Effect, Front};
 use groups::{ConnId, RequestId};
 use history::{Itself, Part, Writer};
@@ -44,9 +48,8 @@ use std::snapshot::Snapshot;
 /// How many steps are kept back for a layer that is out: its Run and its Settle.
 const KEPT_BACK: u64 = 2;
 
-/// How many steps submit a request and hand it out at once, at most: its Submit, a Deliver for each of its packets, of which a request of
-/// eight groups has 64, and its Take.
-const STEPS_PASSED: u64 = 66;
+/// How many steps submit a request and hand it out at once, at most: its Submit, a Deliver for each of its packets, and its Take.
+const STEPS_PASSED: u64 = PACKETS_PASSED as u64 + 2;
 
 /// What comes of a request that may be handed out at once: its id, the steps up to its Submit, and its layer if it was.
 type PassedOf<T, L> = (RequestId, Part<Leading<T>, StepsOf<L>>, Option<Taken<T, L>>);
@@ -319,43 +322,58 @@ impl<T: Tabled, L: Server> History<T, L> {
         }
     }
 
-    /// Whether a request may be handed out at once: no trace is kept, and steps are left for that, and for the Run and the Settle of
-    /// its layer.
+    /// Whether a request may be handed out at once: steps are left for that, and for the Run and the Settle of its layer.
     pub fn may_pass(&self) -> bool
-        ensures untraced { result ≡ true → self.now.trace ≡ None }
-        ensures left { result ≡ true → length self.now.steps + STEPS_PASSED + 1 < self.now.max_steps }
+        ensures { result ≡ true → length self.now.steps + STEPS_PASSED + 1 < self.now.max_steps }
     {
-        self.trace.is_none() && self.count() + STEPS_PASSED + 1 < self.max_steps
+        self.lawful();
+        self.count() + STEPS_PASSED + 1 < self.max_steps
     }
 
     /// Makes the Submit of a connection, behind all that is in the part; and where nothing is before its request, the steps that hand it
-    /// out as a layer of its own. Gives the request's id, the part that ends with its Submit, and that layer.
+    /// out as a layer of its own. Gives the request's id, the part that ends with its Submit, and that layer. Room for so many bytes is
+    /// kept in the trace.
     pub fn pass(
         &mut self,
         conn: ConnId,
         words: Request,
+        kept: usize,
         behind: &Part<Leading<T>, StepsOf<L>>,
     ) -> Result<PassedOf<T, L>, StepFault>
-        requires untraced { self.old.trace ≡ None }
-        requires left { length self.old.steps + STEPS_PASSED + 1 < self.old.max_steps }
+        requires { length self.old.steps + STEPS_PASSED + 1 < self.old.max_steps }
         ensures passed { IfOk result (λ it. HasPassed self.old conn words it.0 it.1 it.2 self.new) }
         ensures behind { OnOk result (IsPrefix behind.now self.old.steps) }
-        ensures untraced { self.new.trace ≡ None }
+        ensures room { OnOk result (HasRoom kept self.new.trace) }
         ensures fault { IfErr result (IsFault self.old (Step.Submit conn words)) }
         ensures unchanged { OnErr result (IsUnchanged self.old self.new) }
+        ensures room_back { OnErr result (KeepsRoom self.old.trace self.new.trace) }
     {
-        let made = (conn, Snapshot::of(&words));
+        let place = place(&self.trace);
+        let step = Step::Submit { conn, words };
+        let Some(room) = kept.checked_add(SIZE_PASSED) else {
+            return Err(self.refusal(&step));
+        };
+        let Ok(()) = push_keeping(&mut self.trace, &step, room) else {
+            return Err(self.refusal(&step));
+        };
+        let made = Snapshot::of(&step);
+        let (conn, words) = parts_of(step);
         let (id, layer) = match self.front.pass(conn, words) {
             Ok(passed) => passed,
-            Err(fault) => return Err(StepFault::from(fault)),
+            Err(fault) => {
+                take_back(&mut self.trace, place);
+                return Err(StepFault::from(fault));
+            }
         };
         self.told
-            .write_behind::<(ConnId, Snapshot<Request>), ItsSubmit>(made, behind);
+            .write_behind::<Snapshot<Step>, ItsStep>(made, behind);
         let seen = self.told.part();
         let Some(layer) = layer else {
             return Ok((id, seen, None));
         };
-        write_arrivals(&mut self.told, packets_of(&layer));
+        let packets = packets_of(&layer);
+        push_passed(&mut self.trace, packets, kept);
+        write_arrivals(&mut self.told, packets);
         self.told.write::<Step, Itself>(Step::Take);
         let taken = Taken {
             layer,
@@ -482,6 +500,17 @@ impl<T: Tabled, L: Server> History<T, L> {
             Ok(()) => Ok(true),
             Err(fault) => Err(fault),
         }
+    }
+}
+
+/// The connection and the words of a Submit.
+fn parts_of(step: Step) -> (ConnId, Request)
+    requires { (conn : ConnId) × (words : List (List ℕ)) × (step ≡ Step.Submit conn words) }
+    ensures { step ≡ Step.Submit result.0 result.1 }
+{
+    match step {
+        Step::Submit { conn, words } => (conn, words),
+        _ => unreachable!(),
     }
 }
 

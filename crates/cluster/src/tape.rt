@@ -1,7 +1,8 @@
 //! A trace where one is kept, or what of it was not handed on. Where none is, each of these calls does nothing, and takes no memory.
 
 ghost use Rattle.std.specs.Prelude.{◌≡◌, ◌≢◌, ◌+◌, ◌≤◌, [], ◌∷◌, ◌++◌, IsOk, IfOk, IfSome, IfNone, OnOk, OnErr, Option, None};
-ghost use Rattle.cluster.specs.Traces.{HasRoom, KeepsRoom, SameTrace, IsPushed, place_of, LeavesRoom, IsHandedOn};
+ghost use Rattle.cluster.specs.Passing.{arrivals};
+ghost use Rattle.cluster.specs.Traces.{HasRoom, KeepsRoom, SameTrace, IsPushed, ArePushed, place_of, LeavesRoom, IsHandedOn};
 ghost use Rattle.journal.specs.Codes.{step_size};
 ghost use Rattle.cluster.specs.declared.tape.Tape.{Tape};
 ghost use Rattle.journal.specs.declared.step.Step.{Step};
@@ -14,6 +15,18 @@ use std::mem;
 
 /// How many bytes a Settle takes in the trace.
 const SETTLE_SIZE: usize = 1;
+
+/// How many bytes the Deliver of the oldest packet takes there.
+const DELIVER_SIZE: usize = 2;
+
+/// How many bytes a Take takes there.
+const TAKE_SIZE: usize = 1;
+
+/// How many packets a request has at most that is handed out at once: one of eight groups.
+pub(super) const PACKETS_PASSED: usize = 64;
+
+/// How many bytes their Delivers and the Take take there at most.
+pub(super) const SIZE_PASSED: usize = PACKETS_PASSED * DELIVER_SIZE + TAKE_SIZE;
 
 /// The steps of a trace that are kept: those behind so many that were handed on.
 #[derive(Drop)]
@@ -50,6 +63,39 @@ pub(super) fn push_keeping(
     match trace {
         Some(tape) => tape.rest.push_keeping(step, kept),
         None => Ok(()),
+    }
+}
+
+/// Puts so many Delivers, each of the oldest packet, and a Take behind the steps, for which there is room, and for so many bytes more.
+pub(super) fn push_passed(trace: &mut Option<Tape>, packets: usize, kept: usize)
+    requires few { packets ≤ PACKETS_PASSED }
+    requires room { HasRoom (SIZE_PASSED + kept) trace.old }
+    ensures pushed { ArePushed trace.old (arrivals packets ++ Step.Take ∷ []) trace.new }
+    ensures room { HasRoom kept trace.new }
+{
+    if let Some(tape) = trace {
+        push_arrivals(&mut tape.rest, packets, kept);
+        let Ok(()) = tape.rest.push_keeping(&Step::Take, kept) else {
+            unreachable!()
+        };
+    }
+}
+
+/// Puts so many Delivers, each of the oldest packet, behind the steps, for which there is room, and for a Take and so many bytes more.
+fn push_arrivals(trace: &mut Trace, packets: usize, kept: usize)
+    requires few { packets ≤ PACKETS_PASSED }
+    requires room { SIZE_PASSED + kept ≤ trace.old.room }
+    ensures max { trace.new.max ≡ trace.old.max }
+    ensures steps { trace.new.steps ≡ trace.old.steps ++ arrivals packets }
+    ensures room { TAKE_SIZE + kept ≤ trace.new.room }
+{
+    let mut left = SIZE_PASSED;
+    for _ in 0..packets {
+        left -= DELIVER_SIZE;
+        let room = kept.saturating_add(left);
+        let Ok(()) = trace.push_keeping(&Step::Deliver { place: 0 }, room) else {
+            unreachable!()
+        };
     }
 }
 

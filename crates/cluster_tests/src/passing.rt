@@ -1,4 +1,4 @@
-//! Requests that are handed out where they are submitted, and those that aren't.
+//! Requests that are handed out where they are submitted, and those that aren't: with a trace and without, and by the same steps.
 
 use crate::asking::{Numbers, closes, request, same_reply, stays};
 use crate::naming::{WithCluster, with_cluster};
@@ -6,11 +6,12 @@ use crate::rows::{MOST, Rows};
 use crate::turns::{ask_rows, reply, rest, run};
 use cluster::{CloseFault, Cluster, First, RunsOf, Seat, Server, Taken};
 use groups::{ConnId, GroupId, RequestId, Stamp};
+use journal::write_trace;
 use layer_planner::Layer;
 use serial_store::{SerialStore, Tabled};
 use std::alloc::Global;
 use std::test::Fail;
-use test_support::{holds, same, same_count, same_number};
+use test_support::{Dice, holds, same, same_bytes, same_count, same_number};
 
 /// The seat passes a request of these words. Gives the layer, where it is handed out.
 fn pass<T: Tabled, L: Server>(
@@ -111,11 +112,11 @@ impl WithCluster for AsksFirst {
     }
 }
 
-/// With a trace by one call for each step, and without one by one call.
+/// By one call for each step, and by one call.
 #[test]
 fn one_call_is_three_steps(rt: HostRuntime) -> Result<(), Fail> {
     for in_one in [false, true] {
-        with_cluster(rt.alloc(), MOST, !in_one, AsksFirst { in_one })?;
+        with_cluster(rt.alloc(), MOST, true, AsksFirst { in_one })?;
     }
     Ok(())
 }
@@ -234,18 +235,11 @@ const ROWS: &[Row] = &[
 #[test]
 fn a_request_that_is_alone_is_handed_out(rt: HostRuntime) -> Result<(), Fail> {
     for row in ROWS {
-        with_cluster(rt.alloc(), MOST, false, *row)?;
+        for keeps in [false, true] {
+            with_cluster(rt.alloc(), MOST, keeps, *row)?;
+        }
     }
     Ok(())
-}
-
-#[rattlefmt::skip]
-const TRACED: Row =
-    Row { before: &[], beside: "", words: "SET a 1", wanted: "+OK\r\n", made: 1, packets: 1, numbers: (1, 1, 0) };
-
-#[test]
-fn nothing_is_handed_out_where_a_trace_is_kept(rt: HostRuntime) -> Result<(), Fail> {
-    with_cluster(rt.alloc(), MOST, true, TRACED)
 }
 
 /// A seat passes `SET a 1`, and so many steps are left that it is handed out, or not.
@@ -280,4 +274,143 @@ impl WithCluster for FewSteps {
 fn sixty_eight_steps_are_left_where_a_request_is_handed_out(rt: HostRuntime) -> Result<(), Fail> {
     with_cluster(rt.alloc(), 69, false, FewSteps { is_out: true })?;
     with_cluster(rt.alloc(), 68, false, FewSteps { is_out: false })
+}
+
+/// What is asked at random: `a` and `b` lie at the one group, `c` and `d` at the other.
+#[rattlefmt::skip]
+const WORDS: &[&str] = &[
+    "SET a 1", "GET a", "INCR b", "DEL b", "LPUSH c 1 2", "LPOP c", "HSET d f 1", "HDEL d f", "SADD b x y", "TYPE c",
+    "MSET a 1 c 2", "MGET a b c d", "RENAME a d", "DEL a b c d", "DBSIZE", "MULTI", "EXEC", "DISCARD", "PING", "GET", "FOO bar",
+];
+
+/// How many requests are asked.
+const ASKED: u64 = 10_000;
+
+/// At most how many steps they make.
+const MOST_AT_RANDOM: u64 = 1_000_000;
+
+/// Packets come, the oldest first, until none is under way, and what is ready then is run and settled.
+fn bring_on<T: Tabled, L: Server>(
+    cluster: &mut Cluster<T, L>,
+    store: &mut SerialStore<T, RunsOf<L>>,
+) -> Result<(), Fail> {
+    for _ in 0..MOST {
+        if !cluster.turn(&First)? {
+            break;
+        }
+    }
+    if !cluster.front().has_ready() {
+        return Ok(());
+    }
+    let taken = cluster.take()?;
+    settle(cluster, store, Some(taken))
+}
+
+/// The seat asks: by one call, or by one for each step. Says whether its request was handed out where it was submitted.
+fn ask_either_way<T: Tabled, L: Server>(
+    alloc: Global,
+    cluster: &mut Cluster<T, L>,
+    store: &mut SerialStore<T, RunsOf<L>>,
+    seat: &mut Seat<T, L>,
+    words: &str,
+    in_one: bool,
+) -> Result<bool, Fail> {
+    let taken = if in_one {
+        pass(alloc, cluster, seat, words)?
+    } else {
+        cluster.submit(seat, request(alloc, words)?)?;
+        None
+    };
+    let at_once = taken.is_some();
+    settle(cluster, store, taken)?;
+    bring_on(cluster, store)?;
+    reply(cluster, store, seat)?;
+    Ok(at_once)
+}
+
+/// Two seats ask at random, by one call or by one for each step. Gives how many requests were handed out where they were submitted.
+fn ask_at_random<T: Tabled, L: Server>(
+    alloc: Global,
+    cluster: &mut Cluster<T, L>,
+    store: &mut SerialStore<T, RunsOf<L>>,
+    one: &mut Seat<T, L>,
+    two: &mut Seat<T, L>,
+    in_one: bool,
+) -> Result<u64, Fail> {
+    let mut dice = Dice::new(20_261_201);
+    let mut at_once: u64 = 0;
+    for _ in 0..ASKED {
+        let words = WORDS[dice.below(WORDS.len() as u64) as usize];
+        let seat = if dice.below(2) == 0 {
+            &mut *one
+        } else {
+            &mut *two
+        };
+        if ask_either_way(alloc, cluster, store, seat, words, in_one)? {
+            at_once = at_once.saturating_add(1);
+        }
+    }
+    Ok(at_once)
+}
+
+/// Two seats of a new cluster ask at random. Gives how many requests were handed out where they were submitted, and the trace.
+fn trace_at_random<T: Tabled, L: Server>(
+    alloc: Global,
+    cluster: &mut Cluster<T, L>,
+    store: &mut SerialStore<T, RunsOf<L>>,
+    in_one: bool,
+) -> Result<(u64, Vec<u8>), Fail> {
+    let mut one = cluster.sit()?;
+    let mut two = cluster.sit()?;
+    let at_once = ask_at_random(alloc, cluster, store, &mut one, &mut two, in_one)?;
+    cluster.stand(one);
+    cluster.stand(two);
+    let mut text = Vec::new(alloc);
+    match cluster.trace() {
+        Some(trace) => write_trace(trace, &mut text)?,
+        None => return Err("no trace is kept".into()),
+    }
+    Ok((at_once, text))
+}
+
+/// Asks at random by one call: a quarter of the requests is handed out where they are submitted, at least, and this is the trace.
+#[derive(Drop)]
+struct InOne {
+    wanted: Vec<u8>,
+}
+
+impl WithCluster for InOne {
+    fn go<T: Tabled, L: Server>(
+        self,
+        alloc: Global,
+        cluster: &mut Cluster<T, L>,
+        store: &mut SerialStore<T, RunsOf<L>>,
+    ) -> Result<(), Fail> {
+        let (at_once, text) = trace_at_random(alloc, cluster, store, true)?;
+        holds("a quarter is handed out", at_once > ASKED / 4)?;
+        same_bytes("the trace", text.as_slice(), self.wanted.as_slice())
+    }
+}
+
+/// Asks at random by one call for each step, and then of another cluster by one call.
+#[derive(Drop)]
+struct ByStepsAndInOne;
+
+impl WithCluster for ByStepsAndInOne {
+    fn go<T: Tabled, L: Server>(
+        self,
+        alloc: Global,
+        cluster: &mut Cluster<T, L>,
+        store: &mut SerialStore<T, RunsOf<L>>,
+    ) -> Result<(), Fail> {
+        let (at_once, wanted) = trace_at_random(alloc, cluster, store, false)?;
+        same_number("handed out by a call for each step", at_once, 0)?;
+        with_cluster(alloc, MOST_AT_RANDOM, true, InOne { wanted })
+    }
+}
+
+/// What is handed out at once leaves the trace that a call for each step leaves.
+#[test]
+fn random_requests_leave_the_same_trace_either_way(rt: HostRuntime) -> Result<(), Fail> {
+    with_cluster(rt.alloc(), MOST_AT_RANDOM, true, ByStepsAndInOne)
 }

@@ -1,10 +1,16 @@
-use Rattle.std.proofs.Common.{sym, subst}
+use Rattle.std.proofs.Common.{subst, arith}
 use mathlib.Core.List.{IsPrefix}
-use Rattle.cluster.proofs.Seats.{cluster_passed, requests_few, room_still, seat_passed}
+use Rattle.cluster.proofs.Seats.{cluster_passed, cluster_still, requests_few, room_still, seat_passed}
+use Rattle.cluster.proofs.Tapes.{room_less}
 use Rattle.cluster.specs.Clusters.{ClusterView, SeatView}
 use Rattle.cluster.specs.Passing.{HasPassed, Passes}
-use Rattle.cluster.specs.Traces.{HasRoom}
 use Rattle.cluster.proofs.cluster.Cluster.pass.Goals as goal
+
+pub invariant_of-self : goal.invariant_of-self
+invariant_of-self g c = (
+  cluster_still c.self.invariant.0 c.pass.new.self c.in-Err-pass.ensures.unchanged,
+  room_still c.self.invariant.1 c.pass.new.self _ _ (c.in-Err-pass.ensures.room_back c.self.inside.kept),
+)
 
 pub book_request-requires-clause-few : goal.book_request-requires-clause-few
 book_request-requires-clause-few g c = requests_few c.self.invariant.0
@@ -13,7 +19,8 @@ pub invariant_of-self-2 : goal.invariant_of-self-2
 invariant_of-self-2 g c = (
   cluster_passed c.self.invariant.0 c.pass.new.self c.book_request.new.requests c.book_request.new.book.total
       c.in-Ok-pass.ensures.passed c.book_request.ensures.requests c.book_request.ensures.book,
-  room_still c.self.invariant.1 c.pass.new.self _ _ (λ room. subst (HasRoom c.self.inside.kept) (sym c.pass.ensures.untraced) tt),
+  room_still c.self.invariant.1 c.pass.new.self _ _ (λ room. room_less c.pass.new.self.trace c.self.inside.kept
+      c.saturating_add-kept.result (omega (arith, c.saturating_add-kept.ensures)) c.in-Ok-pass.ensures.room),
 )
 
 pub returns-clause-passed : goal.returns-clause-passed
