@@ -1,11 +1,9 @@
 -- A trace's text as it is put, piece by piece.
-use Rattle.std.proofs.Common.{◌≡◌, ◌≢◌, ℕ, ◌+◌, ◌-◌, ◌<◌, List, [], ◌∷◌, ◌++◌, length, map, take, refl, sym, ap, ◌∙◌, codes}
-use Rattle.std.specs.Prelude.{◌/◌, ◌%◌, slice_index}
+use Rattle.std.proofs.Common.{◌≡◌, ◌≢◌, ℕ, ◌+◌, ◌-◌, ◌<◌, List, [], ◌∷◌, ◌++◌, length, map, refl, sym, ap, ◌∙◌, codes}
 use Rattle.std.specs.Fmt.{decimal}
 use Rattle.std.specs.List.{flat_map}
-use Rattle.std.proofs.lemmas.List.{append_assoc, append-nil, take_more}
+use Rattle.std.proofs.lemmas.List.{append_assoc, append-nil}
 use Rattle.std.proofs.lemmas.List.Concat.{flat_map-append}
-use Rattle.hex.specs.Hex.{encode_lower, encode_with, lower_digits}
 use Rattle.packing.specs.Codes.{many, number_at, word_at, words_at}
 use Rattle.journal.specs.Codes.{run_at, skip_at, skips_at, submit_at, submit_of}
 use Rattle.packing.specs.CodeLaws.{many_one, length-many}
@@ -80,20 +78,6 @@ module _ (bytes : List ℕ) where
           (decimal conn ++ (flat_map (λ word. 32 ∷ word_text word) ws ++ 10 ∷ []))
       by_words [] some = absurd (some refl)
       by_words (w ∷ ws) some = submit-written (record { 0 = conn }) (w ∷ ws)
-
-pub encode-none : encode_lower [] ≡ []
-unfolding encode_with
-encode-none = refl
-
-encode-append : (front : List ℕ) (byte : ℕ) → encode_lower (front ++ byte ∷ []) ≡ encode_lower front ++ encode_lower (byte ∷ [])
-unfolding encode_with
-encode-append [] byte = refl
-encode-append (b ∷ bs) byte = ap (λ l. slice_index lower_digits (b / 16) ∷ slice_index lower_digits (b % 16) ∷ l) (encode-append bs byte)
-
--- bytes in hexadecimal, one more
-pub encode_more : (bytes : List ℕ) (i : ℕ) → i < length bytes
-    → encode_lower (take (i + 1) bytes) ≡ encode_lower (take i bytes) ++ encode_lower (slice_index bytes i ∷ [])
-encode_more bytes i less = rw (take_more bytes i 0 less) (encode-append (take i bytes) (slice_index bytes i))
 
 -- texts that were put one behind another
 pub in-turn : (before first second third last : List ℕ)

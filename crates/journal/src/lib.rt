@@ -6,7 +6,6 @@
 #![tactic(auto)]
 
 mod codes;
-mod digits;
 mod fault;
 mod laws;
 mod lines;

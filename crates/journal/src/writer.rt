@@ -2,15 +2,16 @@
 
 ghost use Rattle.std.specs.Prelude.{◌≡◌, ℕ, [], ◌∷◌, ◌++◌, List, IfOk, OnOk, OnErr, decimal};
 ghost use Rattle.std.specs.List.{flat_map};
+ghost use Rattle.hex.specs.Hex.{encode_lower};
 ghost use Rattle.packing.specs.Codes.{many, number_at, word_at};
 ghost use Rattle.journal.specs.Codes.{run_at, skip_at, step_at, submit_at};
 ghost use Rattle.journal.specs.TraceText.{word_text, id_text, skip_text, step_line, ended, trace_text, Spells};
 
 use super::codes::{CLOSE, COLLECT, DELIVER, REPEAT, RUN, SETTLE, SUBMIT, TAKE, take_skip};
-use super::digits::put_hex;
 use super::trace::Trace;
 use super::version::WRITTEN_VERSION;
 use groups::{RequestId, SkipId};
+use hex::encode_to_slice;
 use itoa::Buffer;
 use packing::{take_number, take_word};
 use std::alloc::AllocError;
@@ -157,6 +158,26 @@ fn put_word(word: &[u8], out: &mut Vec<u8>) -> Result<(), AllocError>
     }
     out.push(b' ')?;
     put_hex(word, out)
+}
+
+/// Appends two digits a byte. The only error is want of memory, which changes nothing.
+fn put_hex(bytes: &[u8], out: &mut Vec<u8>) -> Result<(), AllocError>
+    ensures ok { OnOk result (out.new.items ≡ out.old.items ++ encode_lower bytes.now) }
+    ensures err { OnErr result (out.new.items ≡ out.old.items) }
+{
+    let start = out.len();
+    let Some(size) = bytes.len().checked_mul(2) else {
+        return Err(AllocError);
+    };
+    let Some(end) = start.checked_add(size) else {
+        return Err(AllocError);
+    };
+    out.resize(end, 0)?;
+    let (_, digits) = out.split_at_mut(start);
+    let Ok(()) = encode_to_slice(bytes, digits) else {
+        unreachable!()
+    };
+    Ok(())
 }
 
 /// Appends so many names at the front of the bytes, each behind a space, and gives the bytes behind them.
