@@ -1,4 +1,5 @@
 pub mod Leaves
+pub mod Led
 pub mod Local
 pub mod ManyKeys
 pub mod Short

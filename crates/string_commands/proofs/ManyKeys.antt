@@ -1,23 +1,23 @@
--- Several keys at once: those that are missing, those that are held, and what the pairs then leave.
-use Rattle.std.proofs.Common.{◌≡◌, ℕ, suc, ◌+◌, ◌<◌, ◌++◌, ◌||◌, List, [], ◌∷◌, length, drop, Bool, true, false, cond, not, Option}
-use Rattle.std.proofs.Common.{Some, None, is_some, Result, Ok, Err, OnErr, IsTrue, IsSome, All, Bor, get_or, zero, add-one, refl, sym, ap}
+-- Several keys at once: those that are missing, and what the pairs leave.
+use Rattle.std.proofs.Common.{◌≡◌, ℕ, suc, ◌+◌, ◌<◌, ◌++◌, ◌||◌, List, [], ◌∷◌, length, drop, reverse, Bool, true, false, cond, not, Option}
+use Rattle.std.proofs.Common.{Some, None, is_some, Result, Ok, Err, OnErr, IsTrue, IsSome, All, Bor, add-one, refl, sym, ap}
 use Rattle.std.proofs.Common.{subst, ◌∙◌, arith}
 use Rattle.std.proofs.Math.Seq.{drop-cons}
-use Rattle.std.proofs.lemmas.List.{append_assoc, length-append}
+use Rattle.std.proofs.lemmas.List.{reverse-reverse}
 use Rattle.std.proofs.lemmas.Option.{slice_get_within, get_or_from_slice_get}
 use Rattle.std.specs.FinMap.{get, insert}
 use Rattle.std.specs.List.{list_any, slice_get}
 use Rattle.std.specs.Option.{option_copied}
 use Rattle.std.specs.Str.{bytes_eq}
 use Rattle.std.specs.Global.{Vec}
-use Rattle.command_cases.specs.Shapes.{values_at, with_pairs}
-use Rattle.keyspace.proofs.Gets.{same, same_bytes, bytes_eq-refl, bytes_eq-swap, get-insert, get-retain_keys}
-use Rattle.keyspace.specs.Map.{Map, among, without}
-use Rattle.string_commands.specs.Held.{held}
+use Rattle.command_cases.specs.Shapes.{values_at}
+use Rattle.keyspace.proofs.Gets.{same_bytes, get-insert}
+use Rattle.keyspace.proofs.Parts.{among-first}
+use Rattle.keyspace.specs.Map.{Map, among}
 use Rattle.string_commands.specs.StringCommand.{missing_among}
 use Rattle.texts.specs.Texts.{Bytes, firsts, by_turns, pairs_of, texts_of}
+use Rattle.values.proofs.Mapped.{map-reverse, reverse-map_pushed}
 use Rattle.values.specs.declared.Value.{Value}
-use Rattle.values.specs.declared.Value.TheVariants.{Str}
 
 -- what holds of all keys holds of each among them
 pub all-among : (covered : Bytes → Bool) (keys : List Bytes) → All (λ key. IsTrue (covered key)) keys
@@ -29,22 +29,9 @@ all-among covered (k ∷ ks) all q h =
       | false ↦ λ e m. all-among covered ks (λ i d w. all (suc i) d (omega (arith, w))) q m
     ] refl h
 
-pub or_later : (b c : Bool) → c ≡ true → (b || c) ≡ true
+or_later : (b c : Bool) → c ≡ true → (b || c) ≡ true
 or_later true c h = refl
 or_later false c h = h
-
-among-texts : (xs : List (Vec ℕ)) (i : ℕ) (x : Vec ℕ) → i < length xs → x ≡ get_or xs i x → among (texts_of xs) x.items ≡ true
-among-texts [] i x within is = absurd (omega arith)
-among-texts (y ∷ ys) zero x within is =
-    ap (λ b. b || among (texts_of ys) x.items) (ap (λ t. bytes_eq x.items t.items) (sym is) ∙ bytes_eq-refl x.items)
-among-texts (y ∷ ys) (suc i) x within is =
-    or_later (bytes_eq x.items y.items) (among (texts_of ys) x.items) (among-texts ys i x (omega (arith, within)) is)
-
--- the key of a turn is among the keys
-pub among_item : (keys : List Bytes) (xs : List (Vec ℕ)) (i : ℕ) (x : Vec ℕ) (key : Bytes)
-    → texts_of xs ≡ keys → i < length xs → x ≡ get_or xs i x → key ≡ x.items → among keys key ≡ true
-among_item keys xs i x key seen within is same =
-    ap (λ ks. among ks key) (sym seen) ∙ ap (among (texts_of xs)) same ∙ among-texts xs i x within is
 
 -- what holds in any case holds of an error
 pub on_err-always : {A E P : Type 0} (r : Result A E) → P → OnErr r P
@@ -56,6 +43,11 @@ pub looked : {A : Type 0} (found : Option (Bor A)) (value : Option A) (there : B
     → is_some value ≡ there
 looked None value there is test = ap is_some (sym is) ∙ sym test
 looked (Some v) value there is test = ap is_some (sym is) ∙ sym test
+
+pub missed : {A : Type 0} (found : Option (Bor A)) (value : Option A) (none : Bool) → option_copied found ≡ value
+    → is_some found ≡ not none → is_some value ≡ not none
+missed None value none is test = ap is_some (sym is) ∙ test
+missed (Some v) value none is test = ap is_some (sym is) ∙ test
 
 -- the key of a turn, and what is left from it on
 pub covered_at : (covered : Bytes → Bool) (keys : List Bytes) (i : ℕ) (key : Bytes) → slice_get keys i ≡ Some key
@@ -76,54 +68,23 @@ one_there m keys i key there at is =
     ap (λ ks. list_any is_some (values_at m ks)) (drop_item keys i key at)
     ∙ ap (λ b. b || list_any is_some (values_at m (drop (i + 1) keys))) is
 
--- the missing keys, one more turn
-missing-cons : (m : Map) (key : Bytes) (keys : List Bytes)
-    → missing_among m (key ∷ keys) ≡ missing_among m (key ∷ []) ++ missing_among m keys
-missing-cons m key keys =
-    elim (not (is_some (get m key)))
-    as (λ b. cond b (key ∷ missing_among m keys) (missing_among m keys) ≡ cond b (key ∷ []) [] ++ missing_among m keys)
-    [ true ↦ refl | false ↦ refl ]
+-- the missing keys from one that is there on, and from one that isn't
+pub missing_later : (m : Map) (keys : List Bytes) (i : ℕ) (key : Bytes) → slice_get keys i ≡ Some key → is_some (get m key) ≡ true
+    → missing_among m (drop i keys) ≡ missing_among m (drop (i + 1) keys)
+missing_later m keys i key at there =
+    let later = missing_among m (drop (i + 1) keys) in
+    ap (missing_among m) (drop_item keys i key at) ∙ ap (λ b. cond (not b) (key ∷ later) later) there
 
-pub missing_turn : (m : Map) (keys : List Bytes) (i : ℕ) (key : Bytes) (found more : List Bytes) → slice_get keys i ≡ Some key
-    → found ++ missing_among m (drop i keys) ≡ missing_among m keys → more ≡ found ++ missing_among m (key ∷ [])
-    → more ++ missing_among m (drop (i + 1) keys) ≡ missing_among m keys
-missing_turn m keys i key found more at before pushed =
-    let rest = drop (i + 1) keys in
-    ap (λ l. l ++ missing_among m rest) pushed ∙ append_assoc found (missing_among m (key ∷ [])) (missing_among m rest)
-    ∙ ap (λ l. found ++ l) (sym (missing-cons m key rest)) ∙ ap (λ l. found ++ missing_among m l) (sym (drop_item keys i key at)) ∙ before
+pub missing_here : (m : Map) (keys : List Bytes) (i : ℕ) (key : Bytes) → slice_get keys i ≡ Some key → is_some (get m key) ≡ false
+    → missing_among m (drop i keys) ≡ missing_among m keys → 0 < length (missing_among m keys)
+missing_here m keys i key at none before =
+    let later = missing_among m (drop (i + 1) keys) in
+    let here : missing_among m (drop i keys) ≡ key ∷ later =
+    ap (missing_among m) (drop_item keys i key at) ∙ ap (λ b. cond (not b) (key ∷ later) later) none in
+    omega (arith, ap length before, ap length here)
 
-pub missing_some : (m : Map) (keys : List Bytes) (i : ℕ) (key : Bytes) (found : List Bytes) → slice_get keys i ≡ Some key
-    → found ++ missing_among m (drop i keys) ≡ missing_among m keys → get m key ≡ None → 0 < length (missing_among m keys)
-missing_some m keys i key found at before none =
-    let rest = missing_among m (drop (i + 1) keys) in
-    let here : missing_among m (drop i keys) ≡ key ∷ rest =
-    ap (missing_among m) (drop_item keys i key at) ∙ ap (λ o. cond (not (is_some o)) (key ∷ rest) rest) none in
-    omega (arith, ap length before, length-append found (missing_among m (drop i keys)), ap length here)
-
--- a missing key is one of the keys, and it isn't there; and so is each key that isn't there
-pub missing-within : (m : Map) (keys : List Bytes) (q : Bytes) → among (missing_among m keys) q ≡ true → among keys q ≡ true
-missing-within m [] q h = absurd cc
-missing-within m (k ∷ ks) q h =
-    elim (not (is_some (get m k)))
-    as (λ b. among (cond b (k ∷ missing_among m ks) (missing_among m ks)) q ≡ true → (bytes_eq q k || among ks q) ≡ true) [
-      | true ↦ λ a. elim (bytes_eq q k) as (λ c. (c || among (missing_among m ks) q) ≡ true → (c || among ks q) ≡ true)
-          [ true ↦ λ _. refl | false ↦ λ e. missing-within m ks q e ] a
-      | false ↦ λ a. elim (bytes_eq q k) as (λ c. (c || among ks q) ≡ true) [ true ↦ refl | false ↦ missing-within m ks q a ]
-    ] h
-
-pub missing-absent : (m : Map) (keys : List Bytes) (q : Bytes) → among (missing_among m keys) q ≡ true → get m q ≡ None
-missing-absent m [] q h = absurd cc
-missing-absent m (k ∷ ks) q h =
-    elim (get m k)
-    as (λ o. get m k ≡ o → among (cond (not (is_some o)) (k ∷ missing_among m ks) (missing_among m ks)) q ≡ true → get m q ≡ None) [
-      | None ↦ λ none a. elim (bytes_eq q k) as (λ c. bytes_eq q k ≡ c → (c || among (missing_among m ks) q) ≡ true → get m q ≡ None) [
-        | true ↦ λ e _. ap (get m) (same_bytes q k e) ∙ none
-        | false ↦ λ _ b. missing-absent m ks q b
-      ] refl a
-      | Some v ↦ λ _ a. missing-absent m ks q a
-    ] refl h
-
-pub missing-among : (m : Map) (keys : List Bytes) (q : Bytes) → among keys q ≡ true → get m q ≡ None → among (missing_among m keys) q ≡ true
+-- a key that isn't there is missing; where none is missing each is there
+missing-among : (m : Map) (keys : List Bytes) (q : Bytes) → among keys q ≡ true → get m q ≡ None → among (missing_among m keys) q ≡ true
 missing-among m [] q h none = absurd cc
 missing-among m (k ∷ ks) q h none =
     elim (bytes_eq q k)
@@ -140,29 +101,21 @@ missing-among m (k ∷ ks) q h none =
           ]
     ] refl h
 
--- keys that aren't there can be removed
-pub without-absent : (m : Map) (keys : List Bytes) → ((q : Bytes) → among keys q ≡ true → get m q ≡ None) → without m keys ≡ m
-without-absent m keys absent =
-    same (without m keys) m (λ q.
-    get-retain_keys m (λ key. not (among keys key)) q
-    ∙ elim (among keys q)
-    as (λ b. among keys q ≡ b → cond (not b) (get m q) None ≡ get m q) [ true ↦ λ e. sym (absent q e) | false ↦ λ _. refl ] refl)
+among-some : (keys : List Bytes) (q : Bytes) → among keys q ≡ true → 0 < length keys
+among-some [] q h = absurd cc
+among-some (k ∷ ks) q h = omega arith
 
--- what was put at a key goes with it
-pub without-insert : (m : Map) (keys : List Bytes) (k : Bytes) (v : Value) → among keys k ≡ true
-    → without (insert m k v) keys ≡ without m keys
-without-insert m keys k v member =
-    same (without (insert m k v) keys) (without m keys) (λ q.
-    get-retain_keys (insert m k v) (λ key. not (among keys key)) q
-    ∙ ap (λ o. cond (not (among keys q)) o None) (get-insert m k v q)
-    ∙ elim (bytes_eq k q)
-    as (λ b. bytes_eq k q ≡ b → cond (not (among keys q)) (cond b (Some v) (get m q)) None ≡ cond (not (among keys q)) (get m q) None) [
-      | true ↦ λ e.
-          let here : among keys q ≡ true = ap (among keys) (sym (same_bytes k q e)) ∙ member in
-          ap (λ b. cond (not b) (Some v) None) here ∙ sym (ap (λ b. cond (not b) (get m q) None) here)
-      | false ↦ λ _. refl
+pub some_missing : (m : Map) (keys : List Bytes) (q : Bytes) → among keys q ≡ true → get m q ≡ None → 0 < length (missing_among m keys)
+some_missing m keys q h none = among-some (missing_among m keys) q (missing-among m keys q h none)
+
+pub none_missing : (m : Map) (keys : List Bytes) → missing_among m keys ≡ [] → (q : Bytes) → among keys q ≡ true → IsSome (get m q)
+none_missing m keys none q h =
+    elim (get m q) as (λ o. get m q ≡ o → IsSome o) [
+      | None ↦ λ absent.
+          let more : 0 < length (missing_among m keys) = some_missing m keys q h absent in
+          absurd (omega (arith, more, ap length none))
+      | Some v ↦ λ _. cc
     ] refl
-    ∙ sym (get-retain_keys m (λ key. not (among keys key)) q))
 
 some_either : (b : Bool) (v : Value) (o : Option Value) → IsSome o → IsSome (cond b (Some v) o)
 some_either true v o there = cc
@@ -173,80 +126,34 @@ pub still_there : (m n : Map) (k : Bytes) (v : Value) (q : Bytes) → n ≡ inse
 still_there m n k v q put there =
     subst IsSome (sym (ap (λ a. get a q) put ∙ get-insert m k v q)) (some_either (bytes_eq k q) v (get m q) there)
 
--- what pairs leave at keys of theirs and at others
-pub pairs-keep : (m : Map) (pairs : List (Bytes × Bytes)) (q : Bytes) → is_some (get m q) ≡ true
-    → is_some (get (with_pairs m pairs) q) ≡ true
-pairs-keep m [] q there = there
-pairs-keep m (p ∷ ps) q there =
-    pairs-keep (insert m p.0 (Str p.1)) ps q
-    (ap is_some (get-insert m p.0 (Str p.1) q)
-    ∙ elim (bytes_eq p.0 q) as (λ b. is_some (cond b (Some (Str p.1)) (get m q)) ≡ true) [ true ↦ refl | false ↦ there ])
-
-pub pairs-put : (m : Map) (pairs : List (Bytes × Bytes)) (q : Bytes) → among (firsts pairs) q ≡ true
-    → is_some (get (with_pairs m pairs) q) ≡ true
-pairs-put m [] q h = absurd cc
-pairs-put m (p ∷ ps) q h =
-    elim (bytes_eq q p.0)
-    as (λ b. bytes_eq q p.0 ≡ b → (b || among (firsts ps) q) ≡ true → is_some (get (with_pairs (insert m p.0 (Str p.1)) ps) q) ≡ true) [
-      | true ↦ λ e _. pairs-keep (insert m p.0 (Str p.1)) ps q
-          (ap is_some (get-insert m p.0 (Str p.1) q)
-          ∙ ap (λ b. is_some (cond b (Some (Str p.1)) (get m q))) (bytes_eq-swap p.0 q ∙ e))
-      | false ↦ λ _ a. pairs-put (insert m p.0 (Str p.1)) ps q a
-    ] refl h
-
-pub pairs-beside : (m : Map) (pairs : List (Bytes × Bytes)) (q : Bytes) → among (firsts pairs) q ≡ false
-    → get (with_pairs m pairs) q ≡ get m q
-pairs-beside m [] q h = refl
-pairs-beside m (p ∷ ps) q h =
-    elim (bytes_eq q p.0)
-    as (λ b. bytes_eq q p.0 ≡ b → (b || among (firsts ps) q) ≡ false → get (with_pairs (insert m p.0 (Str p.1)) ps) q ≡ get m q) [
-      | true ↦ λ _ a. absurd cc
-      | false ↦ λ e a. pairs-beside (insert m p.0 (Str p.1)) ps q a ∙ get-insert m p.0 (Str p.1) q
-          ∙ ap (λ b. cond b (Some (Str p.1)) (get m q)) (bytes_eq-swap p.0 q ∙ e)
-    ] refl h
-
--- maps that agree beside the pairs' keys become one
-pub pairs-agree : (m n : Map) (pairs : List (Bytes × Bytes)) → ((q : Bytes) → among (firsts pairs) q ≡ false → get m q ≡ get n q)
-    → with_pairs m pairs ≡ with_pairs n pairs
-pairs-agree m n [] agree = same m n (λ q. agree q refl)
-pairs-agree m n (p ∷ ps) agree =
-    pairs-agree (insert m p.0 (Str p.1)) (insert n p.0 (Str p.1)) ps (λ q a.
-    get-insert m p.0 (Str p.1) q
-    ∙ elim (bytes_eq p.0 q)
-    as (λ b. bytes_eq p.0 q ≡ b → cond b (Some (Str p.1)) (get m q) ≡ cond b (Some (Str p.1)) (get n q)) [
-      | true ↦ λ _. refl
-      | false ↦ λ e. agree q (ap (λ b. b || among (firsts ps) q) (bytes_eq-swap q p.0 ∙ e) ∙ a)
-    ] refl
-    ∙ sym (get-insert n p.0 (Str p.1) q))
-
-firsts-held : (keys : List Bytes) → firsts (held keys) ≡ keys
-firsts-held [] = refl
-firsts-held (k ∷ ks) = ap (λ l. k ∷ l) (firsts-held ks)
-
-true_or_false : (b c : Bool) → (c ≡ true → b ≡ true) → b ≡ false → c ≡ false
-true_or_false b true so h = let both : true ≡ false = sym (so refl) ∙ h in absurd cc
-true_or_false b false so h = refl
-
--- once the missing keys are held each key is there, and the pairs leave what they leave without that
-pub held-there : (m : Map) (keys : List Bytes) (q : Bytes) → among keys q ≡ true
-    → is_some (get (with_pairs m (held (missing_among m keys))) q) ≡ true
-held-there m keys q h =
-    let missing = missing_among m keys in
-    elim (get m q) as (λ o. get m q ≡ o → is_some (get (with_pairs m (held missing)) q) ≡ true) [
-      | None ↦ λ none. pairs-put m (held missing) q (ap (λ ks. among ks q) (firsts-held missing) ∙ missing-among m keys q h none)
-      | Some v ↦ λ there. pairs-keep m (held missing) q (ap is_some there)
-    ] refl
-
-pub pairs-held : (m : Map) (pairs : List (Bytes × Bytes))
-    → with_pairs (with_pairs m (held (missing_among m (firsts pairs)))) pairs ≡ with_pairs m pairs
-pairs-held m pairs =
-    let keys = firsts pairs in
-    let missing = missing_among m keys in
-    pairs-agree (with_pairs m (held missing)) m pairs (λ q beside.
-    pairs-beside m (held missing) q
-    (ap (λ ks. among ks q) (firsts-held missing) ∙ true_or_false (among keys q) (among missing q) (missing-within m keys q) beside))
-
 -- pairs by turns are these pairs
-pub pairs_of-by_turns : (pairs : List (Bytes × Bytes)) → pairs_of (by_turns pairs) ≡ pairs
+pairs_of-by_turns : (pairs : List (Bytes × Bytes)) → pairs_of (by_turns pairs) ≡ pairs
 pairs_of-by_turns [] = refl
 pairs_of-by_turns (p ∷ ps) = ap (λ l. p ∷ l) (pairs_of-by_turns ps)
+
+-- the turns of pairs, last first, as they are popped: all of them, and the first pair of those that are left
+pub all_turns : (turns reversed : List (Vec ℕ)) (pairs : List (Bytes × Bytes)) → reversed ≡ reverse turns → texts_of turns ≡ by_turns pairs
+    → pairs_of (reverse (texts_of reversed)) ≡ pairs
+all_turns turns reversed pairs is seen =
+    ap pairs_of (ap (λ l. reverse (texts_of l)) is ∙ ap reverse (map-reverse (λ t. t.items) turns) ∙ reverse-reverse (texts_of turns) ∙ seen)
+    ∙ pairs_of-by_turns pairs
+
+pub next_turn : (turns behind after : List (Vec ℕ)) (key value : Vec ℕ) → turns ≡ behind ++ key ∷ [] → behind ≡ after ++ value ∷ []
+    → pairs_of (reverse (texts_of turns)) ≡ (key.items, value.items) ∷ pairs_of (reverse (texts_of after))
+next_turn turns behind after key value first second =
+    ap pairs_of (ap (λ l. reverse (texts_of l)) first ∙ reverse-map_pushed (λ t. t.items) behind key
+    ∙ ap (λ l. key.items ∷ reverse (texts_of l)) second ∙ ap (λ l. key.items ∷ l) (reverse-map_pushed (λ t. t.items) after value))
+
+-- its key is among those that are left, and so is each later one
+pub next_key : (turns behind after : List (Vec ℕ)) (key value : Vec ℕ) → turns ≡ behind ++ key ∷ [] → behind ≡ after ++ value ∷ []
+    → among (firsts (pairs_of (reverse (texts_of turns)))) key.items ≡ true
+next_key turns behind after key value first second =
+    ap (λ ps. among (firsts ps) key.items) (next_turn turns behind after key value first second)
+    ∙ among-first key.items (firsts (pairs_of (reverse (texts_of after))))
+
+pub later_key : (turns behind after : List (Vec ℕ)) (key value : Vec ℕ) (q : Bytes) → turns ≡ behind ++ key ∷ []
+    → behind ≡ after ++ value ∷ [] → among (firsts (pairs_of (reverse (texts_of after)))) q ≡ true
+    → among (firsts (pairs_of (reverse (texts_of turns)))) q ≡ true
+later_key turns behind after key value q first second h =
+    ap (λ ps. among (firsts ps) q) (next_turn turns behind after key value first second)
+    ∙ or_later (bytes_eq q key.items) (among (firsts (pairs_of (reverse (texts_of after)))) q) h

@@ -1,2 +1,2 @@
-pub mod Held
+pub mod Before
 pub mod StringCommand

@@ -1,25 +1,26 @@
 //! MSET and MSETNX: several keys at once, all or none.
 //!
-//! Each key that isn't there gets the empty string first, which alone takes memory; where there is none the keys go
-//! again. Then each key gets its value, which takes none.
+//! What stood at each key is kept until all have their values, so that it comes back where there is no memory for a key
+//! that isn't there.
 
-ghost use Rattle.std.specs.Prelude.{◌≡◌, ◌<◌, ◌++◌, ℕ, List, [], ◌∷◌, true, false, length, is_some, All, IsTrue, IsSome, None, IfOk};
-ghost use Rattle.std.specs.Prelude.{OnOk, OnErr};
+ghost use Rattle.std.specs.Prelude.{◌≡◌, ◌<◌, ◌≤◌, ℕ, List, [], true, false, length, is_some, All, IsTrue, IsSome};
+ghost use Rattle.std.specs.Prelude.{None, IfOk, OnOk, OnErr, vec_capacity};
 ghost use Rattle.std.specs.FinMap as map;
-ghost use Rattle.std.specs.List.{list_any};
+ghost use Rattle.std.specs.List.{AllByRecursion, list_any};
 ghost use Rattle.command_cases.specs.Case.{Does};
 ghost use Rattle.command_cases.specs.Shapes.{at_pairs, values_at, with_pairs};
-ghost use Rattle.keyspace.specs.Map.{among, without};
-ghost use Rattle.string_commands.specs.Held.{held};
+ghost use Rattle.keyspace.specs.Map.{Map, among};
+ghost use Rattle.string_commands.specs.Before.{LeadsTo};
 ghost use Rattle.string_commands.specs.StringCommand.{mset_step, msetnx_step, missing_among};
-ghost use Rattle.texts.specs.Texts.{firsts, texts_of};
+ghost use Rattle.texts.specs.Texts.{firsts};
 ghost use Rattle.values.specs.declared.Value.TheVariants as kind;
 
 use command_cases::{Starved, ok_reply, truth_reply};
-use keyspace::Keyspace;
+use keyspace::{Keyspace, leave};
 use resp::Reply;
-use std::alloc::{AllocError, Global};
-use texts::{Pairs, Text, Texts};
+use std::alloc::Global;
+use std::mem;
+use texts::{Pairs, Text};
 use values::Value;
 
 /// `MSET key value [key value ..]`: puts each value at its key, in place of a value of any type; of a key that is named
@@ -71,99 +72,117 @@ fn is_one_there<K: Keyspace>(keyspace: &K, pairs: &Pairs) -> bool
     false
 }
 
-/// Puts each value at its key, all or none.
+/// Puts each value at its key, all or none. Where there is no memory for one, what stood at the others comes back.
 fn set_all<K: Keyspace>(alloc: Global, keyspace: &mut K, pairs: Pairs) -> Result<(), Starved>
     requires { All (λ key. IsTrue (K.covered key)) (firsts pairs) }
     ensures ok { OnOk result (K.contents keyspace.new ≡ with_pairs (K.contents keyspace.old) pairs) }
     ensures err { OnErr result (K.contents keyspace.new ≡ K.contents keyspace.old) }
     ensures starves { OnErr result (0 < length (missing_among (K.contents keyspace.old) (firsts pairs))) }
 {
-    let missing = missing_keys(alloc, keyspace, &pairs)?;
-    hold_all(alloc, keyspace, &missing)?;
-    replace_all(keyspace, pairs);
-    Ok(())
-}
-
-/// Copies of those of the pairs' keys that aren't there.
-fn missing_keys<K: Keyspace>(
-    alloc: Global,
-    keyspace: &K,
-    pairs: &Pairs,
-) -> Result<Texts, AllocError>
-    requires { All (λ key. IsTrue (K.covered key)) (firsts pairs.now) }
-    ensures found { IfOk result (λ missing. missing ≡ missing_among (K.contents keyspace.now) (firsts pairs.now)) }
-    ensures starves { OnErr result (0 < length (missing_among (K.contents keyspace.now) (firsts pairs.now))) }
-{
-    let mut missing = Vec::new(alloc);
-    for place in 0..pairs.len() {
-        push_missing(alloc, keyspace, pairs.first_at(place), &mut missing)?;
-    }
-    Ok(Texts::from(missing))
-}
-
-/// Adds a copy of the key to those that are missing, if it is.
-fn push_missing<K: Keyspace>(
-    alloc: Global,
-    keyspace: &K,
-    key: &[u8],
-    missing: &mut Vec<Vec<u8>>,
-) -> Result<(), AllocError>
-    requires { IsTrue (K.covered key.now) }
-    ensures ok { OnOk result (texts_of missing.new.items
-        ≡ texts_of missing.old.items ++ missing_among (K.contents keyspace.now) (key.now ∷ [])) }
-    ensures err { OnErr result (map.get (K.contents keyspace.now) key.now ≡ None) }
-{
-    if keyspace.look(key).is_some() {
-        return Ok(());
-    }
-    let copy = Text::copy_of(alloc, key)?;
-    missing.push(copy.into_vec())?;
-    Ok(())
-}
-
-/// Puts the empty string at each of these keys, none of which is there; at all or at none.
-fn hold_all<K: Keyspace>(alloc: Global, keyspace: &mut K, missing: &Texts) -> Result<(), Starved>
-    requires covered { (key : List ℕ) → among missing.now key ≡ true → IsTrue (K.covered key) }
-    requires absent { (key : List ℕ) → among missing.now key ≡ true
-        → map.get (K.contents keyspace.old) key ≡ None }
-    ensures ok { OnOk result (K.contents keyspace.new ≡ with_pairs (K.contents keyspace.old) (held missing.now)) }
-    ensures err { OnErr result (K.contents keyspace.new ≡ K.contents keyspace.old) }
-    ensures starves { OnErr result (0 < length missing.now) }
-{
-    for key in missing.as_slice() {
-        let Ok(()) = hold(alloc, keyspace, key.as_slice()) else {
-            release_all(keyspace, missing);
-            return Err(Starved);
-        };
-    }
-    Ok(())
-}
-
-/// Puts the empty string at a key.
-fn hold<K: Keyspace>(alloc: Global, keyspace: &mut K, key: &[u8]) -> Result<(), Starved>
-    requires { IsTrue (K.covered key.now) }
-    ensures ok { OnOk result (K.contents keyspace.new ≡ map.insert (K.contents keyspace.old) key.now (kind.Str [])) }
-    ensures err { OnErr result (K.contents keyspace.new ≡ K.contents keyspace.old) }
-{
-    let copy = Text::copy_of(alloc, key)?;
-    let Ok(_) = keyspace.put(copy.into_vec(), Value::Str(Text::empty(alloc))) else {
-        return Err(Starved);
+    let Ok(mut before) = Vec::with_capacity(alloc, pairs.len()) else {
+        return replace_all(keyspace, pairs);
     };
+    match put_all(alloc, keyspace, pairs, &mut before) {
+        Ok(()) => Ok(()),
+        Err(starved) => {
+            put_back(keyspace, before);
+            Err(starved)
+        }
+    }
+}
+
+/// A key, and the value that stood there, if there was one.
+type Before = (Vec<u8>, Option<Value>);
+
+/// Puts each value at its key, up to the first one for which there is no memory, and adds what stood at the keys before, for which there
+/// is room.
+fn put_all<K: Keyspace>(
+    alloc: Global,
+    keyspace: &mut K,
+    pairs: Pairs,
+    before: &mut Vec<Before>,
+) -> Result<(), Starved>
+    requires covered { All (λ key. IsTrue (K.covered key)) (firsts pairs) }
+    requires room { (before.old.items ≡ []) × (length pairs ≤ vec_capacity before.old) }
+    ensures ok { OnOk result (K.contents keyspace.new ≡ with_pairs (K.contents keyspace.old) pairs) }
+    ensures led { LeadsTo (K.contents keyspace.old) before.new.items (K.contents keyspace.new) }
+    ensures covered { AllByRecursion (λ b. IsTrue (K.covered b.0.items)) before.new.items }
+    ensures starves { OnErr result (0 < length (missing_among (K.contents keyspace.old) (firsts pairs))) }
+{
+    let mut turns = pairs.into_turns();
+    turns.reverse();
+    while let (Some(key), Some(value)) = (turns.pop(), turns.pop()) {
+        let value = put(alloc, keyspace, key.as_slice(), Text::from(value))?;
+        before.push_reserved((key, value));
+    }
     Ok(())
 }
 
-/// Removes these keys.
-fn release_all<K: Keyspace>(keyspace: &mut K, keys: &Texts)
-    requires { (key : List ℕ) → among keys.now key ≡ true → IsTrue (K.covered key) }
-    ensures released { K.contents keyspace.new ≡ without (K.contents keyspace.old) keys.now }
+/// Puts a string at a key, and gives the value that stood there, if there was one. Memory is taken only for a key that isn't there.
+fn put<K: Keyspace>(
+    alloc: Global,
+    keyspace: &mut K,
+    key: &[u8],
+    text: Text,
+) -> Result<Option<Value>, Starved>
+    requires { IsTrue (K.covered key.now) }
+    ensures before { IfOk result (λ before. map.get (K.contents keyspace.old) key.now ≡ before) }
+    ensures ok { OnOk result (K.contents keyspace.new ≡ map.insert (K.contents keyspace.old) key.now (kind.Str text)) }
+    ensures err { OnErr result (K.contents keyspace.new ≡ K.contents keyspace.old) }
+    ensures absent { OnErr result (map.get (K.contents keyspace.old) key.now ≡ None) }
 {
-    for key in keys.as_slice() {
-        keyspace.take(key.as_slice());
+    if let Some(there) = keyspace.look_mut(key) {
+        return Ok(Some(mem::replace(there, Value::Str(text))));
     }
+    let copy = Text::copy_of(alloc, key)?;
+    match keyspace.put(copy.into_vec(), Value::Str(text)) {
+        Ok(_) => Ok(None),
+        Err(_) => Err(Starved),
+    }
+}
+
+/// Puts back what stood at the keys before, the last one first. It takes no memory.
+fn put_back<K: Keyspace>(keyspace: &mut K, before: Vec<Before>)
+    requires led { (m : Map) × LeadsTo m before.items (K.contents keyspace.old) }
+    requires covered { AllByRecursion (λ b. IsTrue (K.covered b.0.items)) before.items }
+    ensures { (m : Map) → LeadsTo m before.items (K.contents keyspace.old) → K.contents keyspace.new ≡ m }
+{
+    let mut before = before;
+    while let Some((key, value)) = before.pop() {
+        leave(keyspace, key.as_slice(), value);
+    }
+}
+
+/// Puts each value at its key, where each is there. It takes no memory.
+fn replace_all<K: Keyspace>(keyspace: &mut K, pairs: Pairs) -> Result<(), Starved>
+    requires { All (λ key. IsTrue (K.covered key)) (firsts pairs) }
+    ensures ok { OnOk result (K.contents keyspace.new ≡ with_pairs (K.contents keyspace.old) pairs) }
+    ensures err { OnErr result (K.contents keyspace.new ≡ K.contents keyspace.old) }
+    ensures starves { OnErr result (0 < length (missing_among (K.contents keyspace.old) (firsts pairs))) }
+{
+    if is_one_missing(keyspace, &pairs) {
+        return Err(Starved);
+    }
+    replace_each(keyspace, pairs);
+    Ok(())
+}
+
+/// Whether one of the pairs' keys isn't there.
+fn is_one_missing<K: Keyspace>(keyspace: &K, pairs: &Pairs) -> bool
+    requires { All (λ key. IsTrue (K.covered key)) (firsts pairs.now) }
+    ensures missing { result ≡ true → 0 < length (missing_among (K.contents keyspace.now) (firsts pairs.now)) }
+    ensures there { result ≡ false → missing_among (K.contents keyspace.now) (firsts pairs.now) ≡ [] }
+{
+    for place in 0..pairs.len() {
+        if keyspace.look(pairs.first_at(place)).is_none() {
+            return true;
+        }
+    }
+    false
 }
 
 /// Puts each value at its key, each of which is there.
-fn replace_all<K: Keyspace>(keyspace: &mut K, pairs: Pairs)
+fn replace_each<K: Keyspace>(keyspace: &mut K, pairs: Pairs)
     requires covered { (key : List ℕ) → among (firsts pairs) key ≡ true → IsTrue (K.covered key) }
     requires there { (key : List ℕ) → among (firsts pairs) key ≡ true
         → IsSome (map.get (K.contents keyspace.old) key) }

@@ -3,7 +3,7 @@ use Rattle.std.specs.FinMap.{get}
 use Rattle.command_cases.specs.Shapes.{with_pairs}
 use Rattle.keyspace.specs.Map.{among}
 use Rattle.texts.specs.Texts.{firsts, pairs_of, texts_of}
-use Rattle.string_commands.proofs.pairs.replace_all.Given as goal
+use Rattle.string_commands.proofs.pairs.replace_each.Given as goal
 
 -- what is left of the turns, last first, leaves from here what all pairs leave from the start; each of its keys is
 -- there
