@@ -9,6 +9,7 @@ use router::Router;
 use skeen_core::Delivered;
 use std::alloc::{AllocError, Global};
 use std::marker::Model;
+use worded::Worded;
 
 /// Connections, groups with their packets and queues, and the layer that is out.
 ///
@@ -22,6 +23,8 @@ pub struct Front {
     pub(super) router: Router,
     pub(super) multicast: Multicast,
     pub(super) out: Vec<Delivered>,
+    // Room for what a request asks that passes.
+    pub(super) asked: Vec<Worded>,
     pub(super) steps: u64,
     pub(super) layers: u64,
 }
@@ -67,6 +70,7 @@ impl Front {
             router: Router::new(alloc),
             multicast,
             out: Vec::new(alloc),
+            asked: Vec::new(alloc),
             steps: 0,
             layers: 0,
         })

@@ -49,28 +49,6 @@ impl Front {
     }
 }
 
-/// Takes this request as a layer of its own, which is out then. There is room for it.
-pub(super) fn take_one(
-    router: &mut Router,
-    out: &mut Vec<Delivered>,
-    mut jobs: Vec<Job>,
-    request: Delivered,
-) -> Layer
-    requires waits { (t : Layout) × (w : World) × IsTaking t w [] (request ∷ []) router.old }
-    requires none_out { (out.old.items ≡ []) × (1 ≤ vec_capacity out.old) }
-    requires no_jobs { (jobs.items ≡ []) × (1 ≤ vec_capacity jobs) }
-    ensures out { out.new.items ≡ request ∷ [] }
-    ensures taken { (t : Layout) (w : World) → IsTaking t w [] (request ∷ []) router.old
-        → IsTaking t w (request ∷ []) [] router.new × AreJobs w.asked (request ∷ []) result }
-{
-    out.push_reserved(request);
-    take_all(router, out.as_slice(), &mut jobs);
-    let Some(layer) = Layer::gather(jobs) else {
-        unreachable!()
-    };
-    layer
-}
-
 /// Takes the requests of a layer out of the router: what each asks, with its id, its stamp and its groups. There is room
 /// for all of them.
 fn take_all(router: &mut Router, ready: &[Delivered], jobs: &mut Vec<Job>)

@@ -79,7 +79,7 @@ impl Front {
 
 /// The router submits a request of these words, and there is room for a Start to each of its groups. A refusal changes nothing but the
 /// room.
-pub(super) fn submit_with_room(
+fn submit_with_room(
     table: &Table,
     router: &mut Router,
     multicast: &mut Multicast,
@@ -101,7 +101,7 @@ pub(super) fn submit_with_room(
 }
 
 /// Why a connection submits nothing where there is no memory: what the connection itself is refused for comes first.
-fn unsent(router: &Router, conn: ConnId) -> SubmitFault
+pub(super) fn unsent(router: &Router, conn: ConnId) -> SubmitFault
     ensures { IsRefused (connection router.now conn.0) result }
 {
     match router.may_submit(conn) {

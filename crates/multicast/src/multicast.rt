@@ -139,6 +139,7 @@ impl Multicast {
         requires none_ready { (d : Delivered) → ¬ IsReady (queue_of self.old.queues) d }
         requires comes { (g : ℕ) → has groups g ≡ true → MayBeDelivered self.old (record { to = g; id = id; body = Body.Start floor groups }) }
         ensures passed { IfSome result (λ d. Passes self.old id floor groups d self.new) }
+        ensures named { IfSome result (λ d. d.id ≡ id) }
         ensures unchanged { IfNone result (self.new ≡ self.old) }
     {
         if groups.len() == 0 {

@@ -1,3 +1,4 @@
+mod Alone
 mod Queuing
 mod Standings
 mod Turning

@@ -17,7 +17,7 @@ use Rattle.sessions.specs.declared.session.Session.{Session}
 use Rattle.sessions.specs.declared.session.Session.TheVariants.{Free}
 use Rattle.router.proofs.Queuing.{is_free, plain_asked}
 
-at-eqb : (c d : ℕ) → is_at (nat_cmp c) d ≡ (d == c)
+pub at-eqb : (c d : ℕ) → is_at (nat_cmp c) d ≡ (d == c)
 at-eqb c d = search rules
 
 -- what was written at a number

@@ -54,7 +54,7 @@ pub(super) fn ask_plain(
 }
 
 /// Whether these words are PING alone, by which clients see that a server is there: neither a copy of them nor a command is made for it.
-fn is_ping(words: &Request) -> bool
+pub(super) fn is_ping(words: &Request) -> bool
     ensures { result ≡ true → reading words.now ≡ Ok (Local (Ping None)) }
 {
     words.len() == 1 && words.word(0).eq_ignore_ascii_case(b"ping")

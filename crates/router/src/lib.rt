@@ -10,6 +10,7 @@ mod asking;
 mod connection;
 mod listed;
 mod outcome;
+mod passing;
 mod router;
 mod submission;
 

@@ -39,9 +39,9 @@ pub const GREATEST_NUMBER: u64 = 1 << 62;
 /// A connection that is closed and has nothing under way leaves nothing behind.
 #[derive(Drop)]
 pub struct Router {
-    alloc: Global,
+    pub(super) alloc: Global,
     opened: u64,
-    kept: BTreeMap<u64, Connection>,
+    pub(super) kept: BTreeMap<u64, Connection>,
     lists: BTreeMap<u64, Listed>,
 }
 
@@ -268,7 +268,7 @@ impl Router {
     }
 
     /// What is known of an open connection that may submit.
-    fn idle(&self, conn: ConnId) -> Result<Idle, SubmitFault>
+    pub(super) fn idle(&self, conn: ConnId) -> Result<Idle, SubmitFault>
         ensures idle { IfOk result (IsIdleAt (connection self.now conn.0)) }
         ensures refused { IfErr result (λ e. (e ≢ SubmitFault.Memory) × IsRefused (connection self.now conn.0) e) }
     {
@@ -315,7 +315,7 @@ impl Router {
     }
 
     /// Whether a list is open on the connection, spoilt or not.
-    fn has_open_list(&self, conn: ConnId) -> bool
+    pub(super) fn has_open_list(&self, conn: ConnId) -> bool
         ensures { result ≡ is_open_list (session_at self.now conn.0) }
     {
         match self.lists.get(&conn.0) {
@@ -437,7 +437,7 @@ impl Router {
     }
 
     /// Puts this in the place of a connection that is kept.
-    fn put(&mut self, conn: ConnId, now: Connection)
+    pub(super) fn put(&mut self, conn: ConnId, now: Connection)
         requires { IsSome (connection self.old conn.0) }
         ensures { Changes self.old self.new conn.0 (Some now) }
     {
@@ -453,10 +453,11 @@ impl Router {
 }
 
 /// What is known of an open connection that may submit: how many requests it has submitted, and its floor.
-struct Idle {
-    seq: u64,
-    floor: u64,
+#[derive(Clone, Copy)]
+pub(super) struct Idle {
+    pub(super) seq: u64,
+    pub(super) floor: u64,
 }
 
 /// Lets a value go. What that takes for each kind of command is seen here alone.
-fn discard<T: Drop>(_value: T) {}
+pub(super) fn discard<T: Drop>(_value: T) {}
