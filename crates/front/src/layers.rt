@@ -14,6 +14,7 @@ use groups::Stamp;
 use layer_planner::{Job, Layer};
 use router::Router;
 use skeen_core::Delivered;
+use worded::Worded;
 
 impl Front {
     /// All requests that are ready or lined up are taken as the next layer, and handed out to be run. Until what came of them
@@ -61,11 +62,19 @@ fn take_all(router: &mut Router, ready: &[Delivered], jobs: &mut Vec<Job>)
         let Some(asked) = router.take(request.id) else {
             unreachable!()
         };
-        jobs.push_reserved(Job {
-            id: request.id,
-            stamp: Stamp { ..request.stamp },
-            groups: request.groups,
-            asked,
-        });
+        jobs.push_reserved(job_of(request, asked));
+    }
+}
+
+/// The request that was delivered, which asks this, to be run.
+#[inline(always)]
+pub(super) fn job_of(request: &Delivered, asked: Worded) -> Job
+    ensures { result ≡ record { id = request.now.id; stamp = request.now.stamp; groups = request.now.groups; asked = asked } }
+{
+    Job {
+        id: request.id,
+        stamp: Stamp { ..request.stamp },
+        groups: request.groups,
+        asked,
     }
 }

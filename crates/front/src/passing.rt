@@ -22,8 +22,9 @@ ghost use Rattle.world.specs.World.{World};
 
 use super::fault::FrontFault;
 use super::front::Front;
+use super::layers::job_of;
 use super::requests::unsent;
-use groups::{ConnId, RequestId, Stamp};
+use groups::{ConnId, RequestId};
 use layer_planner::{Job, Layer};
 use multicast::Multicast;
 use placement::Table;
@@ -127,7 +128,7 @@ fn send(router: &mut Router, multicast: &mut Multicast, asked: &mut Vec<Worded>,
     ensures begins { Begins multicast.old sent.now.id sent.now.floor sent.now.groups multicast.new }
 {
     if let Some(asked) = asked.pop() {
-        router.put_back(sent.id, asked);
+        router.put_back(sent.id.conn, asked);
     }
     multicast.start(sent.id, sent.floor, sent.groups);
 }
@@ -150,12 +151,7 @@ fn hand_out(
     let Some(asked) = asked.pop() else {
         unreachable!()
     };
-    jobs.push_reserved(Job {
-        id: request.id,
-        stamp: Stamp { ..request.stamp },
-        groups: request.groups,
-        asked,
-    });
+    jobs.push_reserved(job_of(&request, asked));
     out.push_reserved(request);
     let Some(layer) = Layer::gather(jobs) else {
         unreachable!()

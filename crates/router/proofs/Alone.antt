@@ -1,5 +1,5 @@
 -- A request of words by themselves that is submitted and taken at once.
-use Rattle.std.proofs.Common.{◌≡◌, ℕ, suc, ◌+◌, ◌==◌, Bool, true, false, cond, List, [], ◌∷◌, Option, Some, None, is_some, slice_get, arith, refl, ap, sym, subst, ◌∙◌}
+use Rattle.std.proofs.Common.{◌≡◌, ℕ, suc, ◌+◌, ◌==◌, Bool, true, false, cond, List, [], ◌∷◌, ◌++◌, Option, Some, None, is_some, slice_get, arith, refl, ap, sym, subst, ◌∙◌}
 use Rattle.std.proofs.lemmas.Bool.{eqb-true}
 use Rattle.groups.specs.declared.request.ConnId.{ConnId}
 use Rattle.groups.specs.declared.request.RequestId.{RequestId}
@@ -158,6 +158,21 @@ waits_with (Waiting other) true asked is = cc is
 waits_with (Waiting other) false asked is = absurd (cc is)
 waits_with Taken b asked is = absurd (cc is)
 waits_with (Answered o) b asked is = absurd (cc is)
+
+-- one thing at most was taken, and a list's last is that one
+pub one_is_out : (old new : RouterView) (id : RequestId) (items before : List Worded) (asked : Worded) → TakesOut old id items new
+    → items ≡ before ++ asked ∷ [] → items ≡ asked ∷ []
+one_is_out old new id [] [] asked takes is = absurd (cc is)
+one_is_out old new id [] (x ∷ before) asked takes is = absurd (cc is)
+one_is_out old new id (y ∷ []) [] asked takes is = is
+one_is_out old new id (y ∷ []) (x ∷ []) asked takes is = absurd (cc is)
+one_is_out old new id (y ∷ []) (x ∷ z ∷ before) asked takes is = absurd (cc is)
+one_is_out old new id (y ∷ z ∷ items) before asked takes is = absurd takes
+
+pub is_kept : (old new : RouterView) (id : RequestId) (asked : Worded) → TakesOut old id (asked ∷ []) new
+    → (v : Connection) × (connection new id.conn.0 ≡ Some v)
+is_kept old new id asked takes =
+    let v = with_standing takes.1.0 Taken in (v, changed old new id.conn.0 v takes.1.2)
 
 pub waits_again : (old taken new : RouterView) (req : RequestId) (asked : Worded) → TakesOut old req (asked ∷ []) taken
     → ((v : Connection) × (connection taken req.conn.0 ≡ Some v) × Changes taken new req.conn.0 (Some (with_standing v (Waiting asked))))

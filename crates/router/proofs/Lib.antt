@@ -1,4 +1,4 @@
-mod Alone
+pub mod Alone
 mod Queuing
 mod Standings
 mod Turning

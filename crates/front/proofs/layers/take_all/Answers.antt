@@ -1,4 +1,4 @@
-use Rattle.std.proofs.Common.{rules, ◌+◌, [], ◌∷◌, ◌++◌, take, drop, refl, sym, ◌∙◌, subst}
+use Rattle.std.proofs.Common.{rules, ◌+◌, [], ◌∷◌, ◌++◌, take, drop, ap, sym, ◌∙◌, subst}
 use Rattle.std.proofs.lemmas.List.{take_all, drop_all}
 use Rattle.layer_planner.specs.declared.job.Job.{Job}
 use Rattle.front.proofs.Jobs.{take_some, take_one}
@@ -41,14 +41,16 @@ loop-request-preserved c =
     let d = c.request-item.result in
     let inv = c.loop-request.invariant in
     let asked = c.in-Some.asked in
-    let j : Job = record { id = d.id; stamp = d.stamp; groups = d.groups; asked = asked } in
+    let j = c.job_of.result in
+    let is_job = c.job_of.ensures in
     record {
       out = λ t w is.
           let now = inv.out t w is in
           let next = subst (λ ds. IsTaking t w (take i ready) ds c.loop-request.router)
           (turn_at ready i d c.loop-request-test.true c.request-item.is) now.0 in
           let one = take_one t w (take i ready) d (drop (i + 1) ready) c.loop-request.router next c.take.new.self asked
-          c.loop-request.jobs.items j (sym c.take.ensures.taken ∙ c.in-Some.is) c.in-Some.ensures.changes now.1 refl refl refl refl in
+          c.loop-request.jobs.items j (sym c.take.ensures.taken ∙ c.in-Some.is) c.in-Some.ensures.changes now.1
+          (ap (λ (x : Job). x.id) is_job) (ap (λ (x : Job). x.stamp) is_job) (ap (λ (x : Job). x.groups) is_job) (ap (λ (x : Job). x.asked) is_job) in
           let front = sym (passed_at ready i d c.loop-request-test.true c.request-item.is) in (
             subst (λ ds. IsTaking t w ds (drop (i + 1) ready) c.take.new.self) front one.0,
             subst (λ ds. AreJobs w.asked ds c.push_reserved.new.self.items) front
