@@ -10,9 +10,11 @@ pub mod Taking
 pub mod Settling
 pub mod Histories
 pub mod Passing
+pub mod Finished
 pub mod Storing
 pub mod Effects
 pub mod Turns
 pub mod Collecting
 pub mod Seats
+pub mod Finishes
 pub mod Endings

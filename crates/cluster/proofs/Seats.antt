@@ -146,7 +146,7 @@ module _ {all parts requests : ℕ} {c : ClusterView} (is : IsCluster all parts 
   cluster_taken (Err f) out still = cluster_still still
 
   -- a settle: two steps more, neither of which submits a request
-  cluster_settled : (done : List DoneRow) → IsSettled c.history done h' → IsCluster all parts requests (record c { history = h' })
+  pub cluster_settled : (done : List DoneRow) → IsSettled c.history done h' → IsCluster all parts requests (record c { history = h' })
   cluster_settled done settled =
       let two = length-append c.history.steps (Run (names_of done) ∷ Settle ∷ []) in
       record {

@@ -70,6 +70,31 @@ pub record IsBack (t : Layout) (h : HistoryView) (v : RanView) : Type 0 where
   pub its_ran : IsPrefix v.ran every
   pub serial : AreSerial t v.ran
 
+-- what came back, by its parts
+abbrev pub view : List DoneRow → ℕ → List Step → List (List DoneRow) → RanView
+view done number told ran = record { done = done; number = number; told = told; ran = ran }
+
+-- what was sealed is so of these
+pub is_back : {t : Layout} {h : HistoryView} {done done' : List DoneRow} {number : ℕ} {told : List Step} {ran ran' : List (List DoneRow)} →
+    IsRan t (view done number told ran) → done' ≡ done → ran' ≡ ran → h.front.out ≢ [] → number ≡ h.front.layers → (all : List Step) →
+    (x : World) × Leads t opening all x → IsPrefix h.steps all → IsPrefix told all → (every : List (List DoneRow)) → IsPrefix h.ran every →
+    IsPrefix ran' every → AreSerial t ran' → IsBack t h (view done' number told ran')
+is_back {t} {done = done} {number = number} {told = told} {ran' = ran'} is same_done same_ran some same all legal mine its every mine_ran
+    its_ran serial = record {
+      came = subst (λ d. IsRan t (view d number told ran')) (sym same_done)
+          (subst (λ l. IsRan t (view done number told l)) (sym same_ran) is);
+      some = some;
+      number = same;
+      all = all;
+      legal = legal;
+      mine = mine;
+      its = its;
+      every = every;
+      mine_ran = mine_ran;
+      its_ran = its_ran;
+      serial = serial;
+    }
+
 module _ (h : HistoryView) (w : World) (is : IsTrueIn h w) (v : RanView) (back : IsBack h.front.table h v) where
   abbrev t : Layout
   t = h.front.table

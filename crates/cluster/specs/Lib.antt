@@ -11,5 +11,6 @@ pub mod Pieces
 pub mod Counting
 pub mod Clusters
 pub mod Answers
+pub mod Finishing
 pub mod Running
 pub mod Endings

@@ -7,6 +7,7 @@ ghost use Rattle.cluster.specs.Answers.{IsReplied};
 ghost use Rattle.cluster.specs.Clusters.{IsNew, SameBook, last_id, IsCollectFault, CanCollect, StaysOpen};
 ghost use Rattle.cluster.specs.Counting.{all_executed, all_starved, as_word};
 ghost use Rattle.cluster.specs.Endings.{IsCloseFault, IsRight};
+ghost use Rattle.cluster.specs.Finishing.{Finishes, IsFloorOf};
 ghost use Rattle.cluster.specs.Histories.{kept_for, IsLawful, IsMade, IsUnchanged, IsFault};
 ghost use Rattle.cluster.specs.Layers.{HandsOut, IsSettled, IsSettleFault};
 ghost use Rattle.cluster.specs.Outcomes.{IsAbove, raised};
@@ -26,6 +27,7 @@ ghost use Rattle.world.specs.Steps.{Opened, Submitted, Collected, Made};
 
 use super::closing::Closing;
 use super::fault::StepFault;
+use super::finishing::only_row;
 use super::names::{Leading, RunsOf, Server, StepsOf};
 use super::ordered::History;
 use super::pick::Pick;
@@ -34,6 +36,7 @@ use front::{Effect, Front};
 use groups::{ConnId, RequestId, Stamp};
 use history::{Part, Writer};
 use journal::{Step, Trace};
+use layer_results::DoneRow;
 use placement::Table;
 use resp::{Reply, Request};
 use router::Outcome;
@@ -398,6 +401,33 @@ impl<T: Tabled, L: Server> Cluster<T, L> {
         Ok(Some(SealedReply { reply }))
     }
 
+    /// Settles what came of the layer that is out, as `settle` does, and collects the reply, as `collect` does, where the layer is the
+    /// seat's last request alone, which has one. Else nothing changes but room, and what came of it is given back: also where there is
+    /// no memory for the trace, where one is kept, and where one of the two calls would be refused.
+    #[inline]
+    pub fn finish(
+        &mut self,
+        seat: &mut Seat<T, L>,
+        ran: Ran<T, L>,
+    ) -> Result<SealedReply, Ran<T, L>>
+        ensures finished { IfOk result (λ sealed.
+            Finishes self.old.history ran.done seat.old sealed.reply self.new.history seat.new) }
+        ensures rest { SameBook self.old self.new × (self.new.sat ≡ self.old.sat) }
+        ensures given { IfErr result (λ back. back ≡ ran) }
+        ensures unchanged { OnErr result (IsUnchanged self.old.history self.new.history × (seat.new ≡ seat.old)) }
+    {
+        let Some(floor) = floor_of(seat, ran.done().rows()) else {
+            return Err(ran);
+        };
+        let reply = match self.history.finish(ran, self.kept, &seat.seen) {
+            Ok(reply) => reply,
+            Err(ran) => return Err(ran),
+        };
+        seat.floor = floor;
+        seat.seen = self.history.part();
+        Ok(SealedReply { reply })
+    }
+
     /// Takes a seat back, and closes its connection. What it has under way still runs, and its outcome is dropped.
     /// Where the Close is refused, since no step may be made or the connection isn't open, the history gains none. Memory for
     /// it in the trace was taken when the seat sat.
@@ -665,6 +695,17 @@ fn take_outcome<T: Tabled, L: Server>(
     raise(&mut seat.floor, &outcome.stamp);
     seat.seen = history.part();
     Ok(outcome)
+}
+
+/// The clock of the stamp of the seat's last request, where these are its row alone, and the clock is above the seat's floor.
+fn floor_of<T: Tabled, L: Server>(seat: &Seat<T, L>, rows: &[DoneRow]) -> Option<u64>
+    ensures { IfSome result (IsFloorOf seat.now rows.now) }
+{
+    let row = only_row(rows)?;
+    if row.id.conn != seat.conn || row.id.seq != seat.last || row.stamp.clock <= seat.floor {
+        return None;
+    }
+    Some(row.stamp.clock)
 }
 
 /// Closes a connection. Where its Close is refused nothing changes.

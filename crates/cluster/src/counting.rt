@@ -7,6 +7,7 @@ ghost use Rattle.layer_results.specs.Results.{names_of};
 use layer_results::{Done, DoneRow};
 
 /// How many requests of a layer were executed; the greatest number of 64 bits where that is more.
+#[inline(always)]
 pub(super) fn executed_in(rows: &[DoneRow]) -> u64
     ensures { result ≡ as_word (executed_in rows.now) }
 {
@@ -28,6 +29,7 @@ fn one_if(row: &DoneRow) -> u64
 
 /// How many requests of a layer starved as a whole, and members of those that were executed; the greatest number of 64 bits where that
 /// is more.
+#[inline(always)]
 pub(super) fn starved_in(done: &Done) -> u64
     ensures { result ≡ as_word (length (names_of done.now)) }
 {

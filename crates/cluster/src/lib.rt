@@ -11,6 +11,7 @@ mod closing;
 mod cluster;
 mod counting;
 mod fault;
+mod finishing;
 mod names;
 mod ordered;
 mod pick;

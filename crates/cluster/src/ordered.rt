@@ -58,14 +58,14 @@ type PassedOf<T, L> = (RequestId, Part<Leading<T>, StepsOf<L>>, Option<Taken<T, 
 /// see all of these: the front shows the world to which its steps lead, and what was run there is what the store ran first.
 #[derive(Drop)]
 pub(super) struct History<T: Tabled, L: Server> {
-    alloc: Global,
-    front: Front,
-    told: Writer<Leading<T>, StepsOf<L>>,
-    ran: Part<Serial<T>, RunsOf<L>>,
-    max_steps: u64,
-    trace: Option<Tape>,
-    executed: u64,
-    starved: u64,
+    pub(super) alloc: Global,
+    pub(super) front: Front,
+    pub(super) told: Writer<Leading<T>, StepsOf<L>>,
+    pub(super) ran: Part<Serial<T>, RunsOf<L>>,
+    pub(super) max_steps: u64,
+    pub(super) trace: Option<Tape>,
+    pub(super) executed: u64,
+    pub(super) starved: u64,
 }
 
 impl<T: Tabled, L: Server> Model for History<T, L> {

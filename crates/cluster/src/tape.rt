@@ -8,6 +8,7 @@ ghost use Rattle.cluster.specs.declared.tape.Tape.{Tape};
 ghost use Rattle.journal.specs.declared.step.Step.{Step};
 ghost use Rattle.layer_results.specs.Results.{names_of};
 
+use groups::ConnId;
 use journal::{Step, Trace};
 use layer_results::Done;
 use std::alloc::{AllocError, Global};
@@ -21,6 +22,9 @@ const DELIVER_SIZE: usize = 2;
 
 /// How many bytes a Take takes there.
 const TAKE_SIZE: usize = 1;
+
+/// How many bytes a Collect takes there at most.
+pub(super) const COLLECT_SIZE: usize = 10;
 
 /// How many packets a request has at most that is handed out at once: one of eight groups.
 pub(super) const PACKETS_PASSED: usize = 64;
@@ -113,6 +117,7 @@ pub(super) fn take_back(trace: &mut Option<Tape>, place: usize)
 
 /// Puts a Run with what starved behind the steps, and keeps room for a Settle and for so many bytes more. The only error is want of
 /// memory, which changes nothing.
+#[inline(always)]
 pub(super) fn push_run(
     alloc: Global,
     trace: &mut Option<Tape>,
@@ -121,17 +126,59 @@ pub(super) fn push_run(
 ) -> Result<(), AllocError>
     ensures pushed { OnOk result (IsPushed trace.old (Step.Run (names_of done.now)) trace.new) }
     ensures room { OnOk result (HasRoom (step_size Step.Settle + kept) trace.new) }
+    ensures room_left { OnOk result (LeavesRoom trace.old (Step.Run (names_of done.now)) trace.new) }
     ensures traced { OnErr result (trace.old ≢ None) }
     ensures unchanged { OnErr result (trace.new ≡ trace.old) }
 {
-    let Some(_) = trace else {
-        return Ok(());
-    };
+    match trace {
+        Some(tape) => put_run(alloc, &mut tape.rest, done, kept),
+        None => Ok(()),
+    }
+}
+
+/// Puts a Run with what starved behind the steps, and keeps room for a Settle and for so many bytes more. The only error is want of
+/// memory, which changes nothing.
+#[inline(never)]
+fn put_run(alloc: Global, trace: &mut Trace, done: &Done, kept: usize) -> Result<(), AllocError>
+    ensures max { trace.new.max ≡ trace.old.max }
+    ensures steps { OnOk result (trace.new.steps ≡ trace.old.steps ++ Step.Run (names_of done.now) ∷ []) }
+    ensures room { OnOk result (step_size Step.Settle + kept ≤ trace.new.room) }
+    ensures room_left { OnOk result (trace.old.room ≤ trace.new.room + step_size (Step.Run (names_of done.now))) }
+    ensures unchanged { OnErr result (trace.new ≡ trace.old) }
+{
     let Some(kept) = kept.checked_add(SETTLE_SIZE) else {
         return Err(AllocError);
     };
     let starved = done.names(alloc)?;
-    push_keeping(trace, &Step::Run { starved }, kept)
+    trace.push_keeping(&Step::Run { starved }, kept)
+}
+
+/// Puts a Settle and the connection's Collect behind the steps, for which there is room, and for so many bytes more.
+#[inline(always)]
+pub(super) fn push_collected(trace: &mut Option<Tape>, conn: ConnId, kept: usize)
+    requires { HasRoom (step_size Step.Settle + (kept + COLLECT_SIZE)) trace.old }
+    ensures pushed { ArePushed trace.old (Step.Settle ∷ Step.Collect conn ∷ []) trace.new }
+    ensures room { HasRoom kept trace.new }
+{
+    if let Some(tape) = trace {
+        put_collected(&mut tape.rest, conn, kept);
+    }
+}
+
+/// Puts a Settle and the connection's Collect behind the steps, for which there is room, and for so many bytes more.
+#[inline(never)]
+fn put_collected(trace: &mut Trace, conn: ConnId, kept: usize)
+    requires { step_size Step.Settle + (kept + COLLECT_SIZE) ≤ trace.old.room }
+    ensures max { trace.new.max ≡ trace.old.max }
+    ensures steps { trace.new.steps ≡ trace.old.steps ++ Step.Settle ∷ Step.Collect conn ∷ [] }
+    ensures room { kept ≤ trace.new.room }
+{
+    let Ok(()) = trace.push_keeping(&Step::Settle, kept) else {
+        unreachable!()
+    };
+    let Ok(()) = trace.push_keeping(&Step::Collect { conn }, kept) else {
+        unreachable!()
+    };
 }
 
 /// Hands on the steps that are kept, of so many that were made, with how many were handed on before. Behind them none is kept, and room

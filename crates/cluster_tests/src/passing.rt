@@ -8,6 +8,7 @@ use cluster::{CloseFault, Cluster, First, RunsOf, Seat, Server, Taken};
 use groups::{ConnId, GroupId, RequestId, Stamp};
 use journal::write_trace;
 use layer_planner::Layer;
+use resp::Reply;
 use serial_store::{SerialStore, Tabled};
 use std::alloc::Global;
 use std::test::Fail;
@@ -276,6 +277,57 @@ fn sixty_eight_steps_are_left_where_a_request_is_handed_out(rt: HostRuntime) -> 
     with_cluster(rt.alloc(), 68, false, FewSteps { is_out: false })
 }
 
+/// What came of the seat's request is given back to another seat, and where so few steps are left that they are needed; then the seat
+/// collects it by one call, or by two.
+#[derive(Drop)]
+struct GivenBack {
+    in_one: bool,
+}
+
+impl WithCluster for GivenBack {
+    fn go<T: Tabled, L: Server>(
+        self,
+        alloc: Global,
+        cluster: &mut Cluster<T, L>,
+        store: &mut SerialStore<T, RunsOf<L>>,
+    ) -> Result<(), Fail> {
+        let mut seat = cluster.sit()?;
+        let mut other = cluster.sit()?;
+        let taken = take(alloc, cluster, &mut seat, "SET c 1", false)?;
+        let ran = run(store, taken)?;
+        let steps = cluster.count();
+        let Err(ran) = cluster.finish(&mut other, ran) else {
+            return Err("another seat has it".into());
+        };
+        let back = match cluster.finish(&mut seat, ran) {
+            Ok(reply) => {
+                same_reply(alloc, "SET c 1", &reply.open(), "+OK\r\n")?;
+                None
+            }
+            Err(ran) => Some(ran),
+        };
+        same("it is collected", &back.is_none(), &self.in_one)?;
+        let made = if self.in_one { 3 } else { 0 };
+        same_number("the steps", cluster.count(), steps.saturating_add(made))?;
+        if let Some(ran) = back {
+            holds("the layer is settled", cluster.settle(ran).is_ok())?;
+        }
+        cluster.stand(seat);
+        cluster.stand(other);
+        closes(cluster.closing(store), (1, 1, 0))
+    }
+}
+
+/// Behind two Opens, a Submit, a Deliver and a Take: a Run, a Settle and a Collect. With one step fewer it is settled, and no more.
+#[test]
+fn what_is_not_its_own_is_given_back(rt: HostRuntime) -> Result<(), Fail> {
+    for keeps in [false, true] {
+        with_cluster(rt.alloc(), 8, keeps, GivenBack { in_one: true })?;
+        with_cluster(rt.alloc(), 7, keeps, GivenBack { in_one: false })?;
+    }
+    Ok(())
+}
+
 /// What is asked at random: `a` and `b` lie at the one group, `c` and `d` at the other.
 #[rattlefmt::skip]
 const WORDS: &[&str] = &[
@@ -306,7 +358,21 @@ fn bring_on<T: Tabled, L: Server>(
     settle(cluster, store, Some(taken))
 }
 
-/// The seat asks: by one call, or by one for each step. Says whether its request was handed out where it was submitted.
+/// The seat's request, which was handed out, is run, and settled and collected by one call.
+fn finish<T: Tabled, L: Server>(
+    cluster: &mut Cluster<T, L>,
+    store: &mut SerialStore<T, RunsOf<L>>,
+    seat: &mut Seat<T, L>,
+    taken: Taken<T, L>,
+) -> Result<Reply, Fail> {
+    match cluster.finish(seat, run(store, taken)?) {
+        Ok(reply) => Ok(reply.open()),
+        Err(_) => Err("it isn't collected".into()),
+    }
+}
+
+/// The seat asks: by a call that submits and one that settles, or by one for each step. Says whether its request was handed out where
+/// it was submitted.
 fn ask_either_way<T: Tabled, L: Server>(
     alloc: Global,
     cluster: &mut Cluster<T, L>,
@@ -321,11 +387,13 @@ fn ask_either_way<T: Tabled, L: Server>(
         cluster.submit(seat, request(alloc, words)?)?;
         None
     };
-    let at_once = taken.is_some();
-    settle(cluster, store, taken)?;
+    if let Some(taken) = taken {
+        finish(cluster, store, seat, taken)?;
+        return Ok(true);
+    }
     bring_on(cluster, store)?;
     reply(cluster, store, seat)?;
-    Ok(at_once)
+    Ok(false)
 }
 
 /// Two seats ask at random, by one call or by one for each step. Gives how many requests were handed out where they were submitted.

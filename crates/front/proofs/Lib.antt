@@ -5,6 +5,7 @@ pub mod Submits
 pub mod Delivering
 pub mod WorldJobs
 pub mod Connecting
+pub mod FinishMakes
 pub mod Half
 pub mod Handing
 pub mod Histories

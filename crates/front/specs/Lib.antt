@@ -2,6 +2,7 @@ pub mod Connections
 pub mod Multicast
 pub mod Layers
 pub mod Faults
+pub mod Finishing
 pub mod Fronts
 pub mod Making
 pub mod Refusing

@@ -9,6 +9,7 @@
 mod connections;
 mod effect;
 mod fault;
+mod finishing;
 mod front;
 mod layers;
 mod looks;

@@ -44,7 +44,7 @@ fn outcome_of(row: DoneRow) -> Outcome
 }
 
 /// The row's stamp.
-fn stamp_of(row: &DoneRow) -> Stamp
+pub(super) fn stamp_of(row: &DoneRow) -> Stamp
     ensures { result ≡ row.now.stamp }
 {
     Stamp { ..row.stamp }

@@ -1,4 +1,5 @@
 pub mod Alone
+mod Between
 mod Queuing
 mod Standings
 mod Turning

@@ -1,4 +1,5 @@
 pub mod Connection
+pub mod Finishing
 pub mod Lists
 pub mod Router
 pub mod Submitting

@@ -8,6 +8,7 @@
 
 mod asking;
 mod connection;
+mod finishing;
 mod listed;
 mod outcome;
 mod passing;

@@ -4,7 +4,7 @@ use Rattle.std.proofs.Common.{IfSome, IfNone, None, inr, append_assoc}
 use mathlib.Core.List.{IsPrefix}
 use Rattle.cluster.specs.Clusters.{SeatView, last_id}
 use Rattle.cluster.proofs.Seats.{submitted_is}
-use Rattle.cluster.specs.Histories.{HistoryView, IsMade}
+use Rattle.cluster.specs.Histories.{HistoryView, IsLawful, IsMade}
 use Rattle.cluster.specs.Outcomes.{ComesFrom, IsAbove, raised}
 use Rattle.cluster.specs.Passing.{Passes}
 use Rattle.cluster.specs.Submits.{submits_by, IsSaid, session_met}
@@ -20,7 +20,7 @@ use Rattle.shared_cluster.specs.Hands.{Hand, Begun, HasBegun, Answers, HasTurned
 use Rattle.shared_cluster.specs.declared.asking.Begun.TheVariants as begun
 use Rattle.shared_cluster.specs.declared.asking.Settled.TheVariants as settled
 use Rattle.shared_cluster.specs.declared.hand.Hand.TheVariants as hand
-use Rattle.shared_cluster.specs.Turning.{PassesOn}
+use Rattle.shared_cluster.specs.Turning.{PassesOn, Finishes}
 use Rattle.shared_cluster.specs.Asks.{Submits, HasSubmitted, Replies, IsCollected, IsReplied, IsCollectFault, IsAskFault}
 use Rattle.shared_cluster.specs.declared.held.AskFault.{AskFault}
 use Rattle.front.specs.Connections.{outcome_shown}
@@ -174,6 +174,14 @@ pub gives_of : (t : Layout) (ran : RanView) (s s' : SeatView) (o : Option Sealed
     → IfSome o (λ sealed. IsCollected t s (content sealed.reply) s') → IfNone o (s' ≡ s) → Gives t ran s (settled.Gives o) s'
 gives_of t ran s s' (Some sealed) has replied same = (has, replied)
 gives_of t ran s s' None has replied same = (has, same)
+
+-- both by one call
+pub gives_finished : (t : Layout) (before after : HistoryView) (ran : RanView) (s s' : SeatView) (x : SealedReply) → IsLawful before
+    → Finishes t before ran s (content x.reply) after s' → Gives t ran s (settled.Gives (Some x)) s'
+gives_finished t before after ran s s' x lawful it = (
+  record { before = before; after = it.mid; lawful = lawful; settled = it.settled },
+  has_collected t it.mid after s s' (content x.reply) it.replies,
+)
 
 -- what is refused once the request was submitted
 pub begun_fault : (old mid new : SeatView) (words : List (List ℕ)) (fault : AskFault) → HasSubmitted old words mid → new ≡ mid

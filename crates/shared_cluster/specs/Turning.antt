@@ -5,13 +5,15 @@ use Rattle.delivery.specs.Ready.{IsReady}
 use Rattle.front.specs.Looking.{IsQuiet}
 use Rattle.cluster.specs.Clusters.{SeatView, ClusterView, SameBook, IsCollectFault}
 use Rattle.cluster.specs.Histories.{HistoryView, IsUnchanged}
-use Rattle.cluster.specs.Layers.{HandsOut, IsSettleFault}
+use Rattle.cluster.specs.Layers.{HandsOut, IsSettled, IsSettleFault}
 use Rattle.cluster.specs.Passing as cluster
 use Rattle.cluster.specs.Sealed.{TakenView, RanView}
 use Rattle.cluster.specs.Turns.{Delivers}
 use Rattle.cluster.specs.declared.fault.StepFault.TheVariants as fault
+use Rattle.placement.specs.Layout.{Layout}
+use Rattle.resp.specs.Content.{Content}
 use Rattle.router.specs.Router.{waiting}
-use Rattle.shared_cluster.specs.Asks.{Submits, RefusesTurn}
+use Rattle.shared_cluster.specs.Asks.{Submits, Replies, RefusesTurn}
 use Rattle.shared_cluster.specs.declared.held.Next.{Next}
 use Rattle.shared_cluster.specs.declared.held.Next.TheVariants.{Taken, Delivered, Starved, Quiet}
 use Rattle.shared_cluster.specs.declared.held.Unsettled.{Unsettled}
@@ -58,6 +60,13 @@ pub record PassesOn (before : HistoryView) (old : SeatView) (words : List (List 
 abbrev pub RefusesSettle : HistoryView → RanView → Unsettled RanView → Type 0
 RefusesSettle h ran (unsettled.Starved given) = (given ≡ ran) × IsSettleFault h ran fault.Memory
 RefusesSettle h ran (unsettled.Foreign why) = IsSettleFault h ran fault.NoLayer × RefusesTurn true h why
+
+-- What came of the layer was settled, and then the seat collected this reply: so there is a history between.
+pub record Finishes (t : Layout) (before : HistoryView) (ran : RanView) (old : SeatView) (reply : Content) (after : HistoryView)
+    (new : SeatView) : Type 0 where
+  pub mid : HistoryView
+  pub settled : IsSettled before ran.done mid
+  pub replies : Replies t mid old reply after new
 
 -- nothing of the cluster has changed but room
 pub record StaysSo (old new : ClusterView) : Type 0 where

@@ -298,8 +298,33 @@ impl<T: Tabled, L: Server> Shared<T, L> {
         self.settle_or_collect(&mut held, seat, ran)
     }
 
-    /// Behind the lock: settles what came of a layer, and then collects what came of the seat's last request, if it is there.
+    /// Behind the lock: settles what came of a layer, and then collects what came of the seat's last request, if it is there. Both are
+    /// one call where that is the layer.
     fn settle_or_collect(
+        &self,
+        held: &mut Held<T, L>,
+        seat: &mut Seat<T, L>,
+        ran: Ran<T, L>,
+    ) -> Result<Settled<Ran<T, L>>, AskFault>
+        ensures settled { IfOk result (λ settled. Gives T.table ran seat.old settled seat.new) }
+        ensures refused { IfErr result (IsCollectFault seat.old) }
+        ensures unchanged { OnErr result (seat.new ≡ seat.old) }
+    {
+        let ran = match held.finish(seat, ran) {
+            Ok(reply) => {
+                self.note_trace(held);
+                self.wake_next(held);
+                return Ok(Settled::Gives(Some(reply)));
+            }
+            Err(ran) => ran,
+        };
+        self.settle_and_look(held, seat, ran)
+    }
+
+    /// The same by a call for each.
+    // A call, since it is rare.
+    #[inline(never)]
+    fn settle_and_look(
         &self,
         held: &mut Held<T, L>,
         seat: &mut Seat<T, L>,

@@ -6,7 +6,7 @@ ghost use Rattle.resp.specs.Content.{content};
 ghost use Rattle.shared_cluster.specs.Asks.{is_listed, IsSeated, Submits, Replies, RefusesSit, RefusesSubmit, RefusesCollect};
 ghost use Rattle.shared_cluster.specs.Asks.{told_in, RefusesAsk, RefusesTurn};
 ghost use Rattle.shared_cluster.specs.Closings.{Closes, RefusesClose, Writes, IsSight};
-ghost use Rattle.shared_cluster.specs.Turning.{GoesOn, Carries, Takes, MayTake, PassesOn, RefusesSettle, StaysSo, IsNotThere};
+ghost use Rattle.shared_cluster.specs.Turning.{GoesOn, Carries, Takes, MayTake, PassesOn, RefusesSettle, Finishes, StaysSo, IsNotThere};
 ghost use Rattle.shared_cluster.specs.Turning.{IsAtRest};
 ghost use Rattle.cluster.specs.Clusters.{StaysOpen};
 ghost use Rattle.cluster.specs.Histories.{IsLawful, IsMade, IsFault};
@@ -398,6 +398,33 @@ impl<T: Tabled, L: Server> Held<T, L> {
                     step: AskStep::Turn,
                 }))
             }
+        }
+    }
+
+    /// Tells what came of the layer that is out, and collects the reply, where the layer is the seat's last request alone. Else what
+    /// came of it is given back, and nothing has changed but room.
+    #[inline]
+    pub fn finish(
+        &mut self,
+        seat: &mut Seat<T, L>,
+        ran: Ran<T, L>,
+    ) -> Result<SealedReply, Ran<T, L>>
+        ensures finished { IfOk result (λ sealed. Finishes T.table self.old.cluster.history ran seat.old (content sealed.reply)
+            self.new.cluster.history seat.new) }
+        ensures lawful { OnOk result (IsLawful self.old.cluster.history) }
+        ensures given { IfErr result (λ back. back ≡ ran) }
+        ensures unchanged { OnErr result (seat.new ≡ seat.old) }
+        ensures stays { OnErr result (StaysSo self.old.cluster self.new.cluster) }
+        ensures shut { self.new.shut ≡ self.old.shut }
+        ensures stopped { self.new.stopped ≡ self.old.stopped }
+    {
+        if self.stopped {
+            return Err(ran);
+        }
+        self.cluster.lawful();
+        match self.cluster.finish(seat, ran) {
+            Ok(sealed) => Ok(sealed),
+            Err(ran) => Err(ran),
         }
     }
 

@@ -583,7 +583,7 @@ impl<T: Tabled, L: Server> Shared<T, L> {
 
     /// Wakes, behind a Settle, those who may bring on what is ready now: who drives, and the seats of the requests at the heads
     /// of the queues, one of which is ready. Where it is shut it may have been the last one.
-    fn wake_next(&self, held: &Held<T, L>) {
+    pub(crate) fn wake_next(&self, held: &Held<T, L>) {
         let front = held.cluster.front();
         if held.shut {
             self.wake_workers();

@@ -1,46 +1,18 @@
-use Rattle.std.proofs.Common.{◌≡◌, ◌≢◌, ℕ, List, ◌++◌, ◌∷◌, [], length, refl, sym, ap, ◌∙◌, subst}
+use Rattle.std.proofs.Common.{◌++◌, ◌∷◌, [], length, refl, sym, ap, ◌∙◌, subst}
 use mathlib.Core.List.{IsPrefix}
-use Rattle.cluster.proofs.Settling.{IsBack}
+use Rattle.cluster.proofs.Settling.{IsBack, view, is_back}
 use Rattle.cluster.proofs.Counts.{executed_more, starved_more, cuts_more}
 use Rattle.cluster.proofs.Histories.{history, AreLegal, run_legal, of_layer, ran_more, settle_legal, history_settled, was_settled}
 use Rattle.cluster.specs.Counting.{all_executed, all_starved, as_word, executed_in}
 use Rattle.cluster.specs.Histories.{HistoryView, IsHistory}
 use Rattle.cluster.specs.Layers.{IsSettled}
-use Rattle.cluster.specs.Sealed.{RanView, IsRan}
+use Rattle.cluster.specs.Sealed.{RanView}
 use Rattle.cluster.specs.Traces.{IsPushed}
-use Rattle.journal.specs.declared.step.Step.{Step}
 use Rattle.journal.specs.declared.step.Step.TheVariants.{Run, Settle}
 use Rattle.layer_results.specs.Results.{names_of}
-use Rattle.layer_results.specs.declared.done.DoneRow.{DoneRow}
-use Rattle.placement.specs.Layout.{Layout}
-use Rattle.serial_store.specs.Serial.{AreSerial}
 use Rattle.cluster.proofs.ordered.History.settle.Given.{Over}
 use Rattle.cluster.proofs.ordered.History.settle.Goals.{After-executed_in}
 use Rattle.cluster.proofs.ordered.History.settle.Goals as goal
-
-abbrev view : List DoneRow → ℕ → List Step → List (List DoneRow) → RanView
-view done number told ran = record { done = done; number = number; told = told; ran = ran }
-
--- what was sealed is so of its parts
-is_back : {t : Layout} {h : HistoryView} {done done' : List DoneRow} {number : ℕ} {told : List Step} {ran ran' : List (List DoneRow)} →
-    IsRan t (view done number told ran) → done' ≡ done → ran' ≡ ran → h.front.out ≢ [] → number ≡ h.front.layers → (all : List Step) →
-    AreLegal t all → IsPrefix h.steps all → IsPrefix told all → (every : List (List DoneRow)) → IsPrefix h.ran every →
-    IsPrefix ran' every → AreSerial t ran' → IsBack t h (view done' number told ran')
-is_back {t} {done = done} {number = number} {told = told} {ran' = ran'} is same_done same_ran some same all legal mine its every mine_ran
-    its_ran serial = record {
-      came = subst (λ d. IsRan t (view d number told ran')) (sym same_done)
-          (subst (λ l. IsRan t (view done number told l)) (sym same_ran) is);
-      some = some;
-      number = same;
-      all = all;
-      legal = legal;
-      mine = mine;
-      its = its;
-      every = every;
-      mine_ran = mine_ran;
-      its_ran = its_ran;
-      serial = serial;
-    }
 
 pub write-requires : goal.write-requires
 write-requires g c =
