@@ -166,10 +166,6 @@ module _ (t : Layout) (h : HistoryView) (is : IsHistory t h) where
     back' : IsBack h.front.table h v
     back' = subst (λ s. IsBack s h v) (sym is.table) back
 
-    pub run_legal : AreLegal t (h.steps ++ Run (names_of v.done) ∷ [])
-    run_legal = subst (λ s. AreLegal s (h.steps ++ Run (names_of v.done) ∷ [])) is.table
-        (settling.run_leads h is.world is.true_in v back')
-
     pub of_layer : IsTrueOf h.front v.done
     of_layer = settling.truth h is.world is.true_in v back'
 

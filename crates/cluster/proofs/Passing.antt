@@ -73,6 +73,12 @@ pub one_more_arrival : (n : ℕ) → arrivals n ++ Deliver 0 ∷ [] ≡ arrivals
 one_more_arrival zero = refl
 one_more_arrival (suc n) = ap (λ l. Deliver 0 ∷ l) (one_more_arrival n)
 
+-- all that is written of them, and of the Take, is behind the steps before
+pub told_all : (now first : List Step) (packets n : ℕ) → now ≡ first → packets ≡ n
+    → now ++ (arrivals packets ++ Take ∷ []) ≡ (first ++ arrivals n) ++ Take ∷ []
+told_all now first packets n is same = ap (λ l. l ++ (arrivals packets ++ Take ∷ [])) is
+    ∙ ap (λ m. first ++ (arrivals m ++ Take ∷ [])) same ∙ sym (append_assoc first (arrivals n) (Take ∷ []))
+
 length-arrivals : (n : ℕ) → length (arrivals n) ≡ n
 length-arrivals zero = refl
 length-arrivals (suc n) = ap suc (length-arrivals n)
@@ -84,7 +90,6 @@ after h n f = history f h.max_steps (h.steps ++ arrivals n) h.ran (longer h.trac
 pub record HaveArrived (t : Layout) (h : HistoryView) (n : ℕ) (f : FrontView) : Type 0 where
   pub is : IsHistory t (after h n f)
   pub arrives : Arrives n h (after h n f)
-  pub legal : (m : ℕ) → m < n → AreLegal t ((h.steps ++ arrivals m) ++ Deliver 0 ∷ [])
 
 arrive : (t : Layout) (n : ℕ) (h : HistoryView) (f : FrontView) → IsHistory t h → length h.steps + n + 2 < h.max_steps
     → front.Arrives n h.front f → HaveArrived t h n f
@@ -93,7 +98,6 @@ arrive t zero h f is few same =
     λ k. history (same k) h.max_steps (append-nil h.steps k) h.ran (longer-none h.trace k) in record {
       is = subst (IsHistory t) (sym still) is;
       arrives = still;
-      legal = λ m less. absurd (omega arith);
     }
 arrive t (suc n) h f is few (mid, makes, rest) =
     let left : length h.steps + kept_for h.front.out < h.max_steps = omega (arith, kept_few h.front.out, few) in
@@ -108,16 +112,7 @@ arrive t (suc n) h f is few (mid, makes, rest) =
     record {
       is = subst (IsHistory t) same others.is;
       arrives = (one, record { place = 0; made = made; picked = refl }, subst (Arrives n one) same others.arrives);
-      legal = by_place made others.legal;
     }
-  where
-    by_place : IsMade h (Deliver 0) Made (history mid h.max_steps (h.steps ++ Deliver 0 ∷ []) h.ran (longer h.trace (Deliver 0 ∷ [])))
-        → ((m : ℕ) → m < n → AreLegal t (((h.steps ++ Deliver 0 ∷ []) ++ arrivals m) ++ Deliver 0 ∷ []))
-        → (m : ℕ) → m < suc n → AreLegal t ((h.steps ++ arrivals m) ++ Deliver 0 ∷ [])
-    by_place made legal zero less =
-        subst (λ l. AreLegal t (l ++ Deliver 0 ∷ [])) (sym (append-nil h.steps)) (made_legal t h is (Deliver 0) tt Made mid makes)
-    by_place made legal (suc m) less =
-        subst (λ l. AreLegal t (l ++ Deliver 0 ∷ [])) (append_snoc h.steps (Deliver 0) (arrivals m)) (legal m (omega arith))
 
 module _ (t : Layout) (h : HistoryView) (is : IsHistory t h) (left : IsLeft h) (conn : ConnId) (words : List (List ℕ)) (id : RequestId)
     (trace : Option Tape) (pushed : IsPushed h.trace (Submit conn words) trace) where
@@ -151,9 +146,6 @@ module _ (t : Layout) (h : HistoryView) (is : IsHistory t h) (left : IsLeft h) (
     have_arrived : HaveArrived t first (packets_in jobs) passes.come
     have_arrived = arrive t (packets_in jobs) first passes.come (is_begun passes.begun passes.submits)
         (omega (arith, left, passes.few, length-append h.steps (Submit conn words ∷ []))) passes.arrives
-
-    pub arrivals_legal : (m : ℕ) → m < packets_in jobs → AreLegal t ((first.steps ++ arrivals m) ++ Deliver 0 ∷ [])
-    arrivals_legal = have_arrived.legal
 
     abbrev pub come : HistoryView
     come = after first (packets_in jobs) passes.come

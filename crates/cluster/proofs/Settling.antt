@@ -170,9 +170,6 @@ module _ (h : HistoryView) (w : World) (is : IsTrueIn h w) (v : RanView) (back :
   at_run : FrontIsAt h.front (h.steps ++ Run (names_of v.done) ∷ []) (with_run w es)
   at_run = sees_no_run h.front h.steps w is.at (names_of v.done) (Ran (names_of v.done)) (with_run w es) runs
 
-  pub run_leads : (u : World) × Leads t opening (h.steps ++ Run (names_of v.done) ∷ []) u
-  run_leads = (with_run w es, at_run.leads)
-
   -- ---- so it is true of the layer that is out
 
   pub truth : IsTrueOf h.front v.done

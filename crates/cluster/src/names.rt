@@ -1,6 +1,6 @@
 //! What names a server, and which lists of its steps are legal.
 
-use history::{Law, Naming, Says};
+use history::{Law, Naming, Says, SaysAll};
 use journal::Step;
 use layer_results::Done;
 use serial_store::Tabled;
@@ -65,12 +65,24 @@ impl Says<Snapshot<Step>, Step> for ItsStep {
     ghost entry = { λ made. made.value };
 }
 
-/// What is written of what came of a layer, which is lent: its Run, with what starved there.
-pub struct ItsRun;
+/// What is written of a request that is handed out at once, by its packets: each came, the oldest then, and it was taken.
+pub struct ItsPass;
 
-impl<'a> Says<&'a Done, Step> for ItsRun {
-    ghost use Rattle.journal.specs.declared.step.Step.TheVariants.{Run};
+impl SaysAll<usize, Step> for ItsPass {
+    ghost use Rattle.std.specs.Prelude.{[], ◌∷◌, ◌++◌};
+    ghost use Rattle.cluster.specs.Passing.{arrivals};
+    ghost use Rattle.journal.specs.declared.step.Step.TheVariants.{Take};
+
+    ghost entries = { λ packets. arrivals packets ++ Take ∷ [] };
+}
+
+/// What is written of what came of a layer, which is gone: its Run, with what starved there, and its Settle.
+pub struct ItsSettle;
+
+impl SaysAll<Snapshot<Done>, Step> for ItsSettle {
+    ghost use Rattle.std.specs.Prelude.{[], ◌∷◌};
+    ghost use Rattle.journal.specs.declared.step.Step.TheVariants.{Run, Settle};
     ghost use Rattle.layer_results.specs.Results.{names_of};
 
-    ghost entry = { λ done. Run (names_of done.now) };
+    ghost entries = { λ done. Run (names_of done.value) ∷ Settle ∷ [] };
 }

@@ -6,7 +6,7 @@ ghost use mathlib.Core.List.{IsPrefix};
 ghost use Rattle.cluster.specs.Counting.{all_executed, all_starved, as_word};
 ghost use Rattle.cluster.specs.Histories.{kept_for, IsLawful, IsMade, IsUnchanged, IsFault, IsUnanswered};
 ghost use Rattle.cluster.specs.Layers.{HandsOut, IsSettled, IsSettleFault};
-ghost use Rattle.cluster.specs.Passing.{HasPassed, arrivals};
+ghost use Rattle.cluster.specs.Passing.{HasPassed};
 ghost use Rattle.cluster.specs.Pieces.{HandsOn as HandsPieceOn};
 ghost use Rattle.cluster.specs.declared.ordered.TheConstants.{STEPS_PASSED};
 ghost use Rattle.cluster.specs.Traces.{HasRoom, KeepsRoom, IsNotWhole, place_of};
@@ -20,12 +20,11 @@ ghost use Rattle.journal.specs.Codes.{step_size};
 ghost use Rattle.journal.specs.declared.step.Step.{Step};
 ghost use Rattle.journal.specs.declared.trace.TheConstants.{GREATEST_STEPS};
 ghost use Rattle.order_laws.specs.Runs.{LeavesLayers};
-ghost use Rattle.world.specs.Steps.{opening, Leads, Made};
-ghost use Rattle.world.specs.World.{World};
+ghost use Rattle.world.specs.Steps.{Made};
 
 use super::counting::{executed_in, starved_in};
 use super::fault::StepFault;
-use super::names::{ItsRun, ItsStep, Leading, RunsOf, Server, StepsOf};
+use super::names::{ItsPass, ItsSettle, ItsStep, Leading, RunsOf, Server, StepsOf};
 use super::pick::Pick;
 use super::sealed::{Piece, Ran, Taken};
 use super::tape::{
@@ -373,8 +372,7 @@ impl<T: Tabled, L: Server> History<T, L> {
         };
         let packets = packets_of(&layer);
         push_passed(&mut self.trace, packets, kept);
-        write_arrivals(&mut self.told, packets);
-        self.told.write::<Step, Itself>(Step::Take);
+        self.told.write_all::<usize, ItsPass>(packets);
         let taken = Taken {
             layer,
             number: self.front.layers(),
@@ -468,11 +466,11 @@ impl<T: Tabled, L: Server> History<T, L> {
         let (done, runs) = ran.into_parts();
         let _all_ran = runs.with(&self.ran);
         runs.is_legal();
-        self.told.write::<&Done, ItsRun>(&done);
+        let came = Snapshot::of(&done);
         self.executed = self.executed.saturating_add(executed_in(done.rows()));
         self.starved = self.starved.saturating_add(starved_in(&done));
         self.front.settle(done);
-        self.told.write::<Step, Itself>(Step::Settle);
+        self.told.write_all::<Snapshot<Done>, ItsSettle>(came);
         let Ok(()) = push_keeping(&mut self.trace, &Step::Settle, kept) else {
             unreachable!()
         };
@@ -521,16 +519,5 @@ fn packets_of(layer: &Layer) -> usize
     match layer.jobs().first() {
         Some(job) => job.groups.len() * job.groups.len(),
         None => 0,
-    }
-}
-
-/// Writes that so many packets came, each the oldest then.
-fn write_arrivals<T: Tabled, L: Server>(told: &mut Writer<Leading<T>, StepsOf<L>>, packets: usize)
-    requires { (n : ℕ) → n < packets →
-        (w : World) × Leads T.table opening ((told.old ++ arrivals n) ++ Step.Deliver 0 ∷ []) w }
-    ensures { told.new ≡ told.old ++ arrivals packets }
-{
-    for _ in 0..packets {
-        told.write::<Step, Itself>(Step::Deliver { place: 0 });
     }
 }

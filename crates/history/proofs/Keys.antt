@@ -1,6 +1,6 @@
 -- Which pens are spent, and what the entries of one history are.
 use Rattle.std.proofs.Common.{◌≡◌, ℕ, zero, suc, ◌<◌, ◌≤◌, ◌==◌, Bool, true, false, cond, List, [], ◌∷◌, ◌++◌, length, slice_set, refl}
-use Rattle.std.proofs.Common.{ap, subst, arith, sym, ◌∙◌, append_assoc}
+use Rattle.std.proofs.Common.{ap, subst, arith, sym, ◌∙◌, append_assoc, append-nil}
 use mathlib.Core.List.{IsPrefix}
 use Rattle.logbook.specs.Pages.{Cell, cell}
 use Rattle.history.specs.declared.rule.Marked.{Marked}
@@ -26,13 +26,13 @@ all_known {E} k cs pen [] (m ∷ log) p s away = by_case (m.of == k) refl (λ re
     by_case true e of_rest = absurd (cc (s.0 e, away))
     by_case false e of_rest =
         let rest : Knows k pen [] log = of_rest (subst (λ (b : Bool). Spent k cs (cond b m.next pen) log) e s.1) in
-        subst (λ (b : Bool). ([] ≡ cond b (m.entry ∷ entries k log) (entries k log)) × (pen ≡ next_key k (cond b m.next pen) log)) (sym e) rest
+        subst (λ (b : Bool). ([] ≡ cond b (m.entries ++ entries k log) (entries k log)) × (pen ≡ next_key k (cond b m.next pen) log)) (sym e) rest
 all_known k cs pen (x ∷ v) [] p s away = absurd (cc (p.1))
 all_known {E} k cs pen (x ∷ v) (m ∷ log) p s away =
     let heads : x ≡ m = cc (p.1) in
     let rest = all_known k cs (cond (m.of == k) m.next pen) v log (p.0, cc (p.1)) s.1
     (subst (λ (y : Marked E). (cell cs (next_key k (cond (y.of == k) y.next pen) v)).1 ≡ false) heads away) in
-    subst (λ (y : Marked E). Knows k pen (y ∷ v) (m ∷ log)) (sym heads) (ap (λ es. cond (m.of == k) (m.entry ∷ es) es) rest.0, rest.1)
+    subst (λ (y : Marked E). Knows k pen (y ∷ v) (m ∷ log)) (sym heads) (ap (λ es. cond (m.of == k) (m.entries ++ es) es) rest.0, rest.1)
 
 -- ---- What is at home stays there
 
@@ -60,7 +60,7 @@ more_stays [] c i h = absurd (cc h)
 more_stays (d ∷ cs) c zero h = h
 more_stays (d ∷ cs) c (suc i) h = more_stays cs c i h
 
--- ---- One entry more
+-- ---- One step more
 
 pub spent_more : {E : Type 0} (k : ℕ) (cs : List Cell) (pen : ℕ) (log : List (Marked E)) (m : Marked E) → Spent k cs pen log
     → ((m.of == k) ≡ true → (cell cs (next_key k pen log)).1 ≡ true) → Spent k cs pen (log ++ m ∷ [])
@@ -72,40 +72,40 @@ pub next_key_more : {E : Type 0} (k pen : ℕ) (log : List (Marked E)) (m : Mark
 next_key_more k pen [] m = refl
 next_key_more k pen (x ∷ log) m = next_key_more k (cond (x.of == k) x.next pen) log m
 
-more_or_not : {E : Type 0} (b c : Bool) (x e : E) (es : List E) → cond b (x ∷ cond c (es ++ e ∷ []) es)
-    (cond c (es ++ e ∷ []) es) ≡ cond c (cond b (x ∷ es) es ++ e ∷ []) (cond b (x ∷ es) es)
-more_or_not true true x e es = refl
-more_or_not true false x e es = refl
-more_or_not false true x e es = refl
-more_or_not false false x e es = refl
+more_or_not : {E : Type 0} (b c : Bool) (xs es last : List E) → cond b (xs ++ cond c (es ++ last) es) (cond c (es ++ last) es)
+    ≡ cond c (cond b (xs ++ es) es ++ last) (cond b (xs ++ es) es)
+more_or_not true true xs es last = sym (append_assoc xs es last)
+more_or_not true false xs es last = refl
+more_or_not false true xs es last = refl
+more_or_not false false xs es last = refl
 
 pub entries_more : {E : Type 0} (k : ℕ) (log : List (Marked E)) (m : Marked E)
-    → entries k (log ++ m ∷ []) ≡ cond (m.of == k) (entries k log ++ m.entry ∷ []) (entries k log)
-entries_more k [] m = refl
-entries_more {E} k (x ∷ log) m = ap (λ (w : List E). cond (x.of == k) (x.entry ∷ w) w) (entries_more k log m)
-    ∙ more_or_not (x.of == k) (m.of == k) x.entry m.entry (entries k log)
+    → entries k (log ++ m ∷ []) ≡ cond (m.of == k) (entries k log ++ m.entries) (entries k log)
+entries_more {E} k [] m = ap (λ (w : List E). cond (m.of == k) w []) (append-nil m.entries)
+entries_more {E} k (x ∷ log) m = ap (λ (w : List E). cond (x.of == k) (x.entries ++ w) w) (entries_more k log m)
+    ∙ more_or_not (x.of == k) (m.of == k) x.entries (entries k log) m.entries
 
--- its own history has the entry behind it
-pub own_more : {E : Type 0} (log : List (Marked E)) (m : Marked E) → entries m.of (log ++ m ∷ []) ≡ entries m.of log ++ m.entry ∷ []
-own_more {E} log m = entries_more m.of log m ∙ ap (λ (b : Bool). cond b (entries m.of log ++ m.entry ∷ []) (entries m.of log)) (same_number m.of)
+-- its own history has the entries behind it
+pub own_more : {E : Type 0} (log : List (Marked E)) (m : Marked E) → entries m.of (log ++ m ∷ []) ≡ entries m.of log ++ m.entries
+own_more {E} log m = entries_more m.of log m ∙ ap (λ (b : Bool). cond b (entries m.of log ++ m.entries) (entries m.of log)) (same_number m.of)
 
 pub own_next : {E : Type 0} (pen : ℕ) (log : List (Marked E)) (m : Marked E) → next_key m.of pen (log ++ m ∷ []) ≡ m.next
 own_next pen log m = next_key_more m.of pen log m ∙ ap (λ (b : Bool). cond b m.next (next_key m.of pen log)) (same_number m.of)
 
--- what was written is the entry, behind the entries before
-pub entries_written : {E : Type 0} (k : ℕ) (log longer : List (Marked E)) (m : Marked E) (e : E) → m.of ≡ k → m.entry ≡ e
-    → entries m.of longer ≡ entries m.of log ++ m.entry ∷ [] → entries k log ++ e ∷ [] ≡ entries k longer
-entries_written {E} k log longer m e of entry more =
-    subst (λ (i : ℕ). entries i log ++ e ∷ [] ≡ entries i longer) of (subst (λ (x : E). entries m.of log ++ x ∷ [] ≡ entries m.of longer) entry (sym more))
+-- what was written are the entries, behind those before
+pub entries_written : {E : Type 0} (k : ℕ) (log longer : List (Marked E)) (m : Marked E) (es : List E) → m.of ≡ k → m.entries ≡ es
+    → entries m.of longer ≡ entries m.of log ++ m.entries → entries k log ++ es ≡ entries k longer
+entries_written {E} k log longer m es of said more =
+    subst (λ (i : ℕ). entries i log ++ es ≡ entries i longer) of (subst (λ (l : List E). entries m.of log ++ l ≡ entries m.of longer) said (sym more))
 
 pub own_key : {E : Type 0} (k : ℕ) (longer : List (Marked E)) (m : Marked E) → m.of ≡ k → next_key m.of m.of longer ≡ m.next → next_key k k longer ≡ m.next
 own_key {E} k longer m of pen = subst (λ (i : ℕ). next_key i i longer ≡ m.next) of pen
 
 -- ---- Beginnings
 
-cond_more : {E : Type 0} (b : Bool) (x : E) (es rest : List E) → cond b (x ∷ es) es ++ rest ≡ cond b (x ∷ (es ++ rest)) (es ++ rest)
-cond_more true x es rest = refl
-cond_more false x es rest = refl
+cond_more : {E : Type 0} (b : Bool) (xs es rest : List E) → cond b (xs ++ es) es ++ rest ≡ cond b (xs ++ (es ++ rest)) (es ++ rest)
+cond_more true xs es rest = append_assoc xs es rest
+cond_more false xs es rest = refl
 
 -- a beginning of a log begins the entries of each history
 pub entries_prefix : {E : Type 0} (k : ℕ) (v log : List (Marked E)) → IsPrefix v log → IsPrefix (entries k v) (entries k log)
@@ -115,8 +115,8 @@ entries_prefix {E} k (x ∷ v) (m ∷ log) p =
     let rest = entries_prefix k v log (p.0, cc (p.1)) in
     let heads : x ≡ m = cc (p.1) in (
       rest.0,
-      cond_more (x.of == k) x.entry (entries k v) rest.0 ∙ (ap (λ (w : List E). cond (x.of == k) (x.entry ∷ w) w) rest.1
-          ∙ ap (λ (y : Marked E). cond (y.of == k) (y.entry ∷ entries k log) (entries k log)) heads),
+      cond_more (x.of == k) x.entries (entries k v) rest.0 ∙ (ap (λ (w : List E). cond (x.of == k) (x.entries ++ w) w) rest.1
+          ∙ ap (λ (y : Marked E). cond (y.of == k) (y.entries ++ entries k log) (entries k log)) heads),
     )
 
 pub prefix_trans : {A : Type 0} (xs ys zs : List A) → IsPrefix xs ys → IsPrefix ys zs → IsPrefix xs zs

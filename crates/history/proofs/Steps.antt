@@ -60,10 +60,10 @@ module _ {E : Type 0} (legal : List E → Type 0) where
       → (entries e.of t ≡ entries e.of log) × (next_key e.of e.of t ≡ next_key e.of e.of log)
 
   legal_more : (k : ℕ) (e : Marked E) (log : List (Marked E)) → legal (entries k log)
-      → ((e.of == k) ≡ true → legal (entries k log ++ e.entry ∷ [])) → legal (entries k (log ++ e ∷ []))
+      → ((e.of == k) ≡ true → legal (entries k log ++ e.entries)) → legal (entries k (log ++ e ∷ []))
   legal_more k e log was more = subst legal (sym (entries_more k log e)) (by_case (e.of == k) refl)
     where
-      by_case : (b : Bool) → (e.of == k) ≡ b → legal (cond b (entries k log ++ e.entry ∷ []) (entries k log))
+      by_case : (b : Bool) → (e.of == k) ≡ b → legal (cond b (entries k log ++ e.entries) (entries k log))
       by_case true is = more is
       by_case false is = was
 
@@ -71,7 +71,7 @@ module _ {E : Type 0} (legal : List E → Type 0) where
   number_same m n is = grind (arith, is)
 
   writes : (u v : List (Marked E)) (e : Marked E) (j : ℕ) (rest : List Cell) (log : List (Marked E)) → KnowsAll v e j log → IsPrefix v log
-      → IsPrefix u v → next_key e.of e.of u ≡ j → legal (entries e.of u ++ e.entry ∷ [])
+      → IsPrefix u v → next_key e.of e.of u ≡ j → legal (entries e.of u ++ e.entries)
       → ((k : ℕ) → Spent k ((0, true) ∷ rest) k log) → ((k : ℕ) → legal (entries k log)) → j < length ((0, true) ∷ rest)
       → (cell ((0, true) ∷ rest) j).1 ≡ false → WriteGoes v e j ((0, true) ∷ rest) log
   writes u v e zero rest log knows pre begins key more spent was less away = absurd (cc away)
@@ -81,7 +81,7 @@ module _ {E : Type 0} (legal : List E → Type 0) where
       let known = knows u begins key in
       let home : (cell ds (suc j)).1 ≡ true = set_home rest j 0 (omega (arith, less)) in
       let at : next_key e.of e.of log ≡ suc j = sym known.1 ∙ key in
-      let own : legal (entries e.of log ++ e.entry ∷ []) = subst (λ (es : List E). legal (es ++ e.entry ∷ [])) known.0 more in (
+      let own : legal (entries e.of log ++ e.entries) = subst (λ (es : List E). legal (es ++ e.entries)) known.0 more in (
         omega arith,
         refl,
         (
@@ -94,20 +94,20 @@ module _ {E : Type 0} (legal : List E → Type 0) where
             spent = λ k. spent_more k ds k log e (spent_stays k cs ds k log (set_stays cs (suc j) 0) (spent k))
                 (λ is. let same : e.of ≡ k = number_same e.of k is in subst (λ (i : ℕ). (cell ds (next_key i i log)).1 ≡ true) same
                 (subst (λ (i : ℕ). (cell ds i).1 ≡ true) (sym at) home));
-            is_legal = λ k. legal_more k e log (was k) (λ is. subst (λ (i : ℕ). legal (entries i log ++ e.entry ∷ [])) (number_same e.of k is) own);
+            is_legal = λ k. legal_more k e log (was k) (λ is. subst (λ (i : ℕ). legal (entries i log ++ e.entries)) (number_same e.of k is) own);
           },
           inl (refl, refl),
           (λ t p q. let all = knows t p q in record {
             all = all.0 ∙ sym (prefix_between (entries e.of t) (entries e.of v) (entries e.of log) (entries_prefix e.of t v p)
                 (entries_prefix e.of v log pre) all.0);
-            more = own_more log e ∙ ap (λ (es : List E). es ++ e.entry ∷ []) (sym all.0);
+            more = own_more log e ∙ ap (λ (es : List E). es ++ e.entries) (sym all.0);
             pen = own_next e.of log e;
           }),
         ),
       )
 
-  -- whatever the book is, who has the unspent pen of a history adds an entry to what he knows, which is all of it
-  pub write_moves : (u v : List (Marked E)) (e : Marked E) → IsPrefix u v → legal (entries e.of u ++ e.entry ∷ [])
+  -- whatever the book is, who has the unspent pen of a history adds entries to what he knows, which is all of it
+  pub write_moves : (u v : List (Marked E)) (e : Marked E) → IsPrefix u v → legal (entries e.of u ++ e.entries)
       → Moves (IsKept legal) shown moved 0 (v, (nib may_write (next_key e.of e.of u) 0, None)) (λ n. either (n == 0) 0 n)
       (Writes (step 0 0 0 e) (v, (nib may_write (next_key e.of e.of u) 0, None)))
   write_moves u v e begins more cs log kept pre away =

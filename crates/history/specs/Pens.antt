@@ -1,5 +1,5 @@
--- A history as its entries in the log of a book, and what the steps on it tell. A history is named by the key of its first pen; each
--- entry of it names the pen that may write the next one.
+-- A history as its entries in the log of a book, and what the steps on it tell. A history is named by the key of its first pen; what
+-- a step writes of it names the pen that may write next.
 use Rattle.std.specs.Prelude.{ℕ, ◌≡◌, ◌==◌, true, List, [], ◌∷◌, ◌++◌, cond}
 use mathlib.Core.List.{IsPrefix}
 use Rattle.logbook.specs.Pages.{Cell, cell, Step, View, Book, Named, nib, may_make}
@@ -8,14 +8,14 @@ use Rattle.history.specs.declared.rule.Marked.{Marked}
 -- the entries of the history k
 abbrev pub entries : {E : Type 0} → ℕ → List (Marked E) → List E
 entries k [] = []
-entries k (m ∷ log) = cond (m.of == k) (m.entry ∷ entries k log) (entries k log)
+entries k (m ∷ log) = cond (m.of == k) (m.entries ++ entries k log) (entries k log)
 
--- the key of the pen that may write the next entry of k, behind these, where the pen may write the first of these
+-- the key of the pen that may write k next, behind these, where the pen may write the first of these
 abbrev pub next_key : {E : Type 0} → ℕ → ℕ → List (Marked E) → ℕ
 next_key k pen [] = pen
 next_key k pen (m ∷ log) = next_key k (cond (m.of == k) m.next pen) log
 
--- each pen that wrote an entry of k is spent: its cell is at home
+-- each pen that wrote k is spent: its cell is at home
 abbrev pub Spent : {E : Type 0} → ℕ → List Cell → ℕ → List (Marked E) → Type 0
 Spent k cs pen [] = Unit {0}
 Spent k cs pen (m ∷ log) = ((m.of == k) ≡ true → (cell cs pen).1 ≡ true) × Spent k cs (cond (m.of == k) m.next pen) log
@@ -33,10 +33,10 @@ gate_of b = record { tracked = true; key = 0; book = b }
 abbrev pub Spares : {E : Type 0} → Step (Marked E) → View (Marked E) ℕ → ℕ → View (Marked E) ℕ → Type 0
 Spares s v found w = w.1.0 ≡ nib may_make w.1.0.key 0
 
--- whoever has the unspent pen of a history knew all of it, and the entry was written behind it
+-- whoever has the unspent pen of a history knew all of it, and the entries were written behind it
 pub record HasWritten {E : Type 0} (ask : Marked E) (known before after : List (Marked E)) : Type 0 where
   pub all : entries ask.of known ≡ entries ask.of before
-  pub more : entries ask.of after ≡ entries ask.of known ++ ask.entry ∷ []
+  pub more : entries ask.of after ≡ entries ask.of known ++ ask.entries
   pub pen : next_key ask.of ask.of after ≡ ask.next
 
 abbrev pub Writes : {E : Type 0} → Step (Marked E) → View (Marked E) ℕ → ℕ → View (Marked E) ℕ → Type 0

@@ -12,7 +12,7 @@ mod rule;
 mod threads;
 mod writer;
 
-pub use laws::{Itself, Law, Naming, Says};
+pub use laws::{Alone, Itself, Law, Naming, Says, SaysAll};
 pub use part::Part;
 pub use threads::{ThreeParts, write_in_threads, write_locked};
 pub use writer::{Unnamed, Writer};

@@ -1,16 +1,17 @@
 // The rule of the book below a history, and what its steps tell.
-use crate::laws::{Law, Naming, Says};
+use crate::laws::{Law, Naming, SaysAll};
 use logbook::{Gain, Pen, Plain, Play, Rule};
+use std::collections::LinkedList;
 use std::marker::PhantomData;
 
-/// An entry of a history, with the key of the pen that may write the next one. No value of it is made.
+/// Entries of a history that one step writes, with the key of the pen that may write the next ones. No value of it is made.
 pub struct Marked<E> {
     pub of: u64,
-    pub entry: E,
+    pub entries: LinkedList<E>,
     pub next: u64,
 }
 
-/// The rule: each pen that has written an entry is spent, and the entries of each history are legal.
+/// The rule: each pen that has written entries is spent, and the entries of each history are legal.
 pub struct Rules<L> {
     of: PhantomData<L>,
 }
@@ -53,7 +54,7 @@ impl<E, M> Play<Marked<E>, u64> for Spare<M> {
     ghost then = { Spares };
 }
 
-/// The step that writes an entry.
+/// The step that writes entries.
 pub struct Write<M, J> {
     says: PhantomData<M>,
     of: PhantomData<J>,
@@ -65,24 +66,24 @@ impl<E, M, J> Play<Marked<E>, u64> for Write<M, J> {
     ghost then = { Writes };
 }
 
-/// An entry to be written, and the pen for the next one.
+/// What is written of, and the pen for what is written next.
 pub struct Next<X> {
     pub about: X,
     pub pen: Pen,
 }
 
-impl<X, E, M: Says<X, E>> Plain<X, Marked<E>, u64> for Spare<M> {
+impl<X, E, M: SaysAll<X, E>> Plain<X, Marked<E>, u64> for Spare<M> {
     ghost use Rattle.std.specs.Prelude.{None};
 
-    ghost ask = { λ about. record { of = 0; entry = M.entry about; next = 0 } };
+    ghost ask = { λ about. record { of = 0; entries = M.entries about; next = 0 } };
 
     ghost state = { λ about. None };
 }
 
-impl<X, E, M: Says<X, E>, J: Naming> Plain<Next<X>, Marked<E>, u64> for Write<M, J> {
+impl<X, E, M: SaysAll<X, E>, J: Naming> Plain<Next<X>, Marked<E>, u64> for Write<M, J> {
     ghost use Rattle.std.specs.Prelude.{None};
 
-    ghost ask = { λ next. record { of = J.name.first; entry = M.entry next.about; next = next.pen.nib.key } };
+    ghost ask = { λ next. record { of = J.name.first; entries = M.entries next.about; next = next.pen.nib.key } };
 
     ghost state = { λ next. None };
 }

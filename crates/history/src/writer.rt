@@ -4,7 +4,7 @@ ghost use mathlib.Core.List.{IsPrefix};
 ghost use Rattle.logbook.specs.Pages.{nib, may_write};
 ghost use Rattle.history.specs.Pens.{gate_of};
 
-use crate::laws::{Law, Naming, Says};
+use crate::laws::{Alone, Law, Naming, Says, SaysAll};
 use crate::part::Part;
 use crate::rule::{Marked, Next, Nothing, Rules, Spare, Write};
 use logbook::{Offer, Pen, Seen, Start, Word};
@@ -41,7 +41,7 @@ impl<L: Law> Unnamed<L> {
     {
         let (seen, mut first, _second) = Seen::open(Start::alone(), 0, 0);
         let gate: Word<Marked<L::Entry>, u64, Rules<L>> = Word::tracked(0, &mut first);
-        let pen = spare::<L, X, M>(&gate, &seen, any);
+        let pen = spare::<L, X, Alone<M>>(&gate, &seen, any);
         Unnamed { gate, pen, seen }
     }
 
@@ -116,6 +116,28 @@ impl<L: Law, J: Naming> Writer<L, J> {
         ensures written { self.new ≡ self.old ++ M.entry about ∷ [] }
         ensures before { IsPrefix part.now self.old }
     {
+        self.write_all_behind::<X, Alone<M>>(about, part);
+    }
+
+    /// Adds all entries that `M` says of the value at hand, which is dropped. It takes no longer than to add one.
+    pub fn write_all<X: Drop, M: SaysAll<X, L::Entry>>(&mut self, about: X)
+        requires { L.legal (self.old ++ M.entries about) }
+        ensures { self.new ≡ self.old ++ M.entries about }
+    {
+        let part = self.part();
+        self.write_all_behind::<X, M>(about, &part);
+    }
+
+    /// The same; and whatever is in the part, whoever saw it, stands before the entries.
+    pub fn write_all_behind<X: Drop, M: SaysAll<X, L::Entry>>(
+        &mut self,
+        about: X,
+        part: &Part<L, J>,
+    )
+        requires { L.legal (self.old ++ M.entries about) }
+        ensures written { self.new ≡ self.old ++ M.entries about }
+        ensures before { IsPrefix part.now self.old }
+    {
         let pen = spare::<L, X, M>(&self.gate, &self.seen, &about);
         let next = Next { about, pen };
         let mut seen = self.seen.again();
@@ -135,7 +157,7 @@ impl<L: Law, J: Naming> Writer<L, J> {
 }
 
 // A pen of its own, whatever was seen of the book.
-fn spare<L: Law, X, M: Says<X, L::Entry>>(
+fn spare<L: Law, X, M: SaysAll<X, L::Entry>>(
     gate: &Word<Marked<L::Entry>, u64, Rules<L>>,
     seen: &Seen<Marked<L::Entry>, u64, Rules<L>>,
     any: &X,

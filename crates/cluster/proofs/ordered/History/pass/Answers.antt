@@ -1,6 +1,6 @@
 use Rattle.std.proofs.Common.{◌≡◌, ◌+◌, ◌<◌, ◌++◌, ◌∷◌, [], List, length, Some, None, refl, sym, ap, ◌∙◌, subst, arith}
 use Rattle.cluster.proofs.Histories.{history, history_still, left_so, AreLegal, goes_on, kept_few, told_as}
-use Rattle.cluster.proofs.Passing.{IsLeft, arrivals_legal, has_begun, has_passed, is_begun, is_taken, passed_so, sealed, submit_legal, taken_legal}
+use Rattle.cluster.proofs.Passing.{IsLeft, has_begun, has_passed, is_begun, is_taken, passed_so, sealed, submit_legal, taken_legal, told_all}
 use Rattle.cluster.proofs.Tapes.{room_less}
 use Rattle.cluster.specs.Histories.{HistoryView, kept_for, IsHistory, IsFault}
 use Rattle.cluster.specs.Passing.{arrivals, HasPassed}
@@ -10,10 +10,10 @@ use Rattle.cluster.specs.declared.tape.TheConstants.{SIZE_PASSED}
 use Rattle.front.specs.Passing.{Passes, TakesAtOnce, packets_in}
 use Rattle.front.specs.Refusing as refusing
 use Rattle.journal.specs.declared.step.Step.{Step}
-use Rattle.journal.specs.declared.step.Step.TheVariants.{Submit, Deliver, Take}
+use Rattle.journal.specs.declared.step.Step.TheVariants.{Submit, Take}
 use Rattle.layer_planner.specs.declared.job.Job.{Job}
 use Rattle.cluster.proofs.ordered.History.pass.Given.{Over}
-use Rattle.cluster.proofs.ordered.History.pass.Goals.{After-write_behind, After-write}
+use Rattle.cluster.proofs.ordered.History.pass.Goals.{After-write_behind, After-write_all}
 use Rattle.cluster.proofs.ordered.History.pass.Goals as goal
 
 -- the history as it was, its steps with the Submit, and its trace
@@ -47,14 +47,12 @@ module _ (g : Over) (c : After-write_behind g) where
   takes layer is = subst (λ o. Passes c.self.inside.front c.args.conn c.args.words c.in-Ok-pass.passed.0 o c.pass.new.self) is passes
 
 -- all that was written, and all that was pushed
-took : (g : Over) (c : After-write g) (first : List Step) → c.write_behind.new.self ≡ first →
-    c.write.new.self ≡ (first ++ arrivals (packets_in c.in-Some-layer.layer)) ++ Take ∷ []
-took g c first written =
-    c.write.ensures ∙ ap (λ l. l ++ Take ∷ []) (c.write_arrivals.ensures
-    ∙ ap (λ n. c.write_behind.new.self ++ arrivals n) c.packets_of-packets.ensures
-    ∙ ap (λ l. l ++ arrivals (packets_in c.in-Some-layer.layer)) written)
+took : (g : Over) (c : After-write_all g) (first : List Step) → c.write_behind.new.self ≡ first →
+    c.write_all.new.self ≡ (first ++ arrivals (packets_in c.in-Some-layer.layer)) ++ Take ∷ []
+took g c first written = c.write_all.ensures ∙ told_all c.write_behind.new.self first c.packets_of-packets.result
+    (packets_in c.in-Some-layer.layer) written c.packets_of-packets.ensures
 
-all_pushed : (g : Over) (c : After-write g) →
+all_pushed : (g : Over) (c : After-write_all g) →
     ArePushed c.push_keeping.new.trace (arrivals (packets_in c.in-Some-layer.layer) ++ Take ∷ []) c.push_passed.new.trace
 all_pushed g c = subst (λ n. ArePushed c.push_keeping.new.trace (arrivals n ++ Take ∷ []) c.push_passed.new.trace)
     c.packets_of-packets.ensures c.push_passed.ensures.pushed
@@ -134,20 +132,12 @@ pub push_passed-requires-clause-room : goal.push_passed-requires-clause-room
 push_passed-requires-clause-room g c =
     room_less c.push_keeping.new.trace (SIZE_PASSED + c.args.kept) c.in-Some.room (omega (arith, c.in-Some.ensures)) c.in-Ok.ensures.room
 
-pub write_arrivals-requires : goal.write_arrivals-requires
-write_arrivals-requires g c = λ n less.
-    let at = (goal.at.write_arrivals-requires g c).After-write_behind in
-    subst (λ l. AreLegal g.T.Tabled.table ((l ++ arrivals n) ++ Deliver 0 ∷ [])) (sym (wrote g at))
-    (arrivals_legal g.T.Tabled.table (old g at) c.self.invariant.0 (left g at) c.args.conn c.args.words c.in-Ok-pass.passed.0
-    c.push_keeping.new.trace (pushed g at) c.in-Some-layer.layer c.pass.new.self (takes g at c.in-Some-layer.layer c.in-Some-layer.is)
-    n (omega (arith, less, c.packets_of-packets.ensures)))
-
-pub write-requires : goal.write-requires
-write-requires g c =
-    let at = (goal.at.write-requires g c).After-write_behind in
-    let came = c.write_arrivals.ensures ∙ ap (λ n. c.write_behind.new.self ++ arrivals n) c.packets_of-packets.ensures
-    ∙ ap (λ l. l ++ arrivals (packets_in c.in-Some-layer.layer)) (wrote g at) in
-    subst (λ l. AreLegal g.T.Tabled.table (l ++ Take ∷ [])) (sym came)
+pub write_all-requires : goal.write_all-requires
+write_all-requires g c =
+    let at = (goal.at.write_all-requires g c).After-write_behind in
+    let all = told_all c.write_behind.new.self (begun g at) c.packets_of-packets.result (packets_in c.in-Some-layer.layer) (wrote g at)
+    c.packets_of-packets.ensures in
+    subst (AreLegal g.T.Tabled.table) (sym all)
     (taken_legal g.T.Tabled.table (old g at) c.self.invariant.0 (left g at) c.args.conn c.args.words c.in-Ok-pass.passed.0
     c.push_keeping.new.trace (pushed g at) c.in-Some-layer.layer c.pass.new.self (takes g at c.in-Some-layer.layer c.in-Some-layer.is))
 
@@ -155,7 +145,7 @@ pub invariant_of-taken : goal.invariant_of-taken
 invariant_of-taken g c =
     let place = goal.at.invariant_of-taken g c in
     let at = place.After-write_behind in
-    let all = took g place.After-write (begun g at) (wrote g at) in
+    let all = took g place.After-write_all (begun g at) (wrote g at) in
     subst (λ n. IsTaken g.T.Tabled.table (record { layer = c.in-Some-layer.layer; number = n; told = c.part.result })) (sym c.layers.ensures)
     (subst (λ l. IsTaken g.T.Tabled.table (record { layer = c.in-Some-layer.layer; number = c.pass.new.self.layers; told = l }))
     (sym (c.part.ensures ∙ all))
@@ -168,10 +158,10 @@ invariant_of-self-2 g c =
     let at = place.After-write_behind in
     let in' = c.self.inside in (
       subst (λ l. IsHistory g.T.Tabled.table (history c.pass.new.self in'.max_steps l in'.ran c.push_passed.new.trace))
-          (sym (took g place.After-write (begun g at) (wrote g at)))
+          (sym (took g place.After-write_all (begun g at) (wrote g at)))
           (is_taken g.T.Tabled.table (old g at) c.self.invariant.0 (left g at) c.args.conn c.args.words c.in-Ok-pass.passed.0
           c.push_keeping.new.trace (pushed g at) c.in-Some-layer.layer c.pass.new.self
-          (takes g at c.in-Some-layer.layer c.in-Some-layer.is) c.push_passed.new.trace (all_pushed g place.After-write)),
+          (takes g at c.in-Some-layer.layer c.in-Some-layer.is) c.push_passed.new.trace (all_pushed g place.After-write_all)),
       c.self.invariant.1,
       c.self.invariant.2,
     )
@@ -181,13 +171,13 @@ returns-clause-passed g c =
     let place = goal.at.returns-clause-passed g c in
     let at = place.After-write_behind in
     let in' = c.self.inside in
-    let all = took g place.After-write (begun g at) (wrote g at) in
+    let all = took g place.After-write_all (begun g at) (wrote g at) in
     let v : TakenView = record { layer = c.in-Some-layer.layer; number = c.layers.result; told = c.part.result } in
     subst (λ h. HasPassed h c.args.conn c.args.words c.in-Ok-pass.passed.0 c.part-seen.result (Some v)
-    (history c.pass.new.self in'.max_steps c.write.new.self in'.ran c.push_passed.new.trace)) c.self.view_is
+    (history c.pass.new.self in'.max_steps c.write_all.new.self in'.ran c.push_passed.new.trace)) c.self.view_is
     (subst (λ l. HasPassed (old g at) c.args.conn c.args.words c.in-Ok-pass.passed.0 c.part-seen.result (Some v)
     (history c.pass.new.self in'.max_steps l in'.ran c.push_passed.new.trace)) (sym all)
     (has_passed g.T.Tabled.table (old g at) c.self.invariant.0 (left g at) c.args.conn c.args.words c.in-Ok-pass.passed.0
     c.push_keeping.new.trace (pushed g at) c.in-Some-layer.layer c.pass.new.self
-    (takes g at c.in-Some-layer.layer c.in-Some-layer.is) c.push_passed.new.trace (all_pushed g place.After-write) c.part-seen.result v
+    (takes g at c.in-Some-layer.layer c.in-Some-layer.is) c.push_passed.new.trace (all_pushed g place.After-write_all) c.part-seen.result v
     (c.part-seen.ensures ∙ wrote g at) refl c.layers.ensures (c.part.ensures ∙ all)))

@@ -1,8 +1,8 @@
-use Rattle.std.proofs.Common.{◌++◌, ◌∷◌, [], length, refl, sym, ap, ◌∙◌, subst}
+use Rattle.std.proofs.Common.{◌≡◌, ◌≢◌, ℕ, List, ◌++◌, ◌∷◌, [], length, refl, sym, ap, ◌∙◌, subst, append_assoc}
 use mathlib.Core.List.{IsPrefix}
 use Rattle.cluster.proofs.Settling.{IsBack, view, is_back}
 use Rattle.cluster.proofs.Counts.{executed_more, starved_more, cuts_more}
-use Rattle.cluster.proofs.Histories.{history, AreLegal, run_legal, of_layer, ran_more, settle_legal, history_settled, was_settled}
+use Rattle.cluster.proofs.Histories.{history, AreLegal, of_layer, ran_more, settle_legal, history_settled, was_settled}
 use Rattle.cluster.specs.Counting.{all_executed, all_starved, as_word, executed_in}
 use Rattle.cluster.specs.Histories.{HistoryView, IsHistory}
 use Rattle.cluster.specs.Layers.{IsSettled}
@@ -14,17 +14,11 @@ use Rattle.cluster.proofs.ordered.History.settle.Given.{Over}
 use Rattle.cluster.proofs.ordered.History.settle.Goals.{After-executed_in}
 use Rattle.cluster.proofs.ordered.History.settle.Goals as goal
 
-pub write-requires : goal.write-requires
-write-requires g c =
-    let in' = c.self.inside in
-    let h = history in'.front in'.max_steps in'.told in'.ran in'.trace in
-    let parts = c.into_parts-done.result in
-    let v = view parts.0 c.ran.inside.ran.number c.ran.inside.told parts.1 in
-    let back : IsBack g.T.Tabled.table h v = is_back c.ran.invariant c.into_parts-done.ensures.done c.into_parts-done.ensures.runs
-    (c.if-not-is_out.ensures.0 refl) (sym c.number.ensures ∙ c.if-number-layers.false ∙ c.layers.ensures) c.with-all_told.result
-    c.is_legal.ensures (subst (λ l. IsPrefix l c.with-all_told.result) c.part.ensures c.with-all_told.ensures.that)
-    c.with-all_told.ensures.this c.with-all_ran.result c.with-all_ran.ensures.that c.with-all_ran.ensures.this c.is_legal-2.ensures in
-    run_legal g.T.Tabled.table h c.self.invariant.0 v back
+-- what is written of it: its Run and its Settle, behind the steps before
+run_settled : (steps : List Step) (came done : List DoneRow) → came ≡ done
+    → steps ++ Run (names_of came) ∷ Settle ∷ [] ≡ (steps ++ Run (names_of done) ∷ []) ++ Settle ∷ []
+run_settled steps came done is =
+    ap (λ d. steps ++ Run (names_of d) ∷ Settle ∷ []) is ∙ sym (append_assoc steps (Run (names_of done) ∷ []) (Settle ∷ []))
 
 -- the history as it was, and what came back of the layer that is out
 module _ (g : Over) (c : After-executed_in g) where
@@ -45,10 +39,10 @@ settle-requires-clause-truth g c =
     let at = (goal.at.settle-requires-clause-truth g c).After-executed_in in
     of_layer g.T.Tabled.table (h g at) c.self.invariant.0 (v g at) (back g at)
 
-pub write-requires-2 : goal.write-requires-2
-write-requires-2 g c =
-    let at = (goal.at.write-requires-2 g c).After-executed_in in
-    subst (λ l. AreLegal g.T.Tabled.table (l ++ Settle ∷ [])) (sym c.write.ensures)
+pub write_all-requires : goal.write_all-requires
+write_all-requires g c =
+    let at = (goal.at.write_all-requires g c).After-executed_in in
+    subst (AreLegal g.T.Tabled.table) (sym (run_settled c.self.inside.told c.of-came.result.value c.into_parts-done.result.0 c.of-came.ensures))
     (settle_legal g.T.Tabled.table (h g at) c.self.invariant.0 (v g at) (back g at) c.settle.new.self c.settle.ensures)
 
 pub invariant_of-self-2 : goal.invariant_of-self-2
@@ -58,7 +52,7 @@ invariant_of-self-2 g c =
     let parts = c.into_parts-done.result in
     let run = subst (λ d. IsPushed in'.trace (Run (names_of d)) c.push_run.new.trace) (c.done.ensures ∙ sym c.into_parts-done.ensures.done)
     c.in-Ok.ensures.pushed in
-    let wrote = c.write-2.ensures ∙ ap (λ l. l ++ Settle ∷ []) c.write.ensures in
+    let wrote = c.write_all.ensures ∙ run_settled in'.told c.of-came.result.value parts.0 c.of-came.ensures in
     let more = ran_more g.T.Tabled.table (h g at) c.self.invariant.0 (v g at) (back g at) in (
       subst (λ l. IsHistory g.T.Tabled.table (history c.settle.new.self in'.max_steps l parts.1 c.push_keeping.new.trace))
           (sym wrote) (history_settled g.T.Tabled.table (h g at) c.self.invariant.0 (v g at) (back g at) c.settle.new.self
@@ -77,8 +71,8 @@ returns-clause-settled g c =
     let parts = c.into_parts-done.result in
     let run = subst (λ d. IsPushed in'.trace (Run (names_of d)) c.push_run.new.trace) (c.done.ensures ∙ sym c.into_parts-done.ensures.done)
     c.in-Ok.ensures.pushed in
-    let wrote = c.write-2.ensures ∙ ap (λ l. l ++ Settle ∷ []) c.write.ensures in
-    let new = history c.settle.new.self in'.max_steps c.write-2.new.self parts.1 c.push_keeping.new.trace in
+    let wrote = c.write_all.ensures ∙ run_settled in'.told c.of-came.result.value parts.0 c.of-came.ensures in
+    let new = history c.settle.new.self in'.max_steps c.write_all.new.self parts.1 c.push_keeping.new.trace in
     let done = c.into_parts-done.ensures.done ∙ ap (λ (r : RanView). r.done) c.ran.view_is in
     subst (λ d. IsSettled c.args.self.now d new) done (subst (λ o. IsSettled o parts.0 new) c.self.view_is
     (subst (λ l. IsSettled (h g at) parts.0 (history c.settle.new.self in'.max_steps l parts.1 c.push_keeping.new.trace)) (sym wrote)

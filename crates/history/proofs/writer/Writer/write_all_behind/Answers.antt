@@ -1,10 +1,10 @@
-use Rattle.std.proofs.Common.{◌≡◌, ◌++◌, ◌∷◌, [], sym, ◌∙◌, ap, subst}
+use Rattle.std.proofs.Common.{◌≡◌, ◌++◌, sym, ◌∙◌, ap, subst}
 use mathlib.Core.List.{IsPrefix}
 use Rattle.logbook.specs.Pages.{nib, may_write}
 use Rattle.history.specs.Pens.{entries, next_key}
 use Rattle.history.proofs.Keys.{entries_written, own_key, entries_prefix}
 use Rattle.history.proofs.Steps.{write_moves}
-use Rattle.history.proofs.writer.Writer.write_behind.Goals as goal
+use Rattle.history.proofs.writer.Writer.write_all_behind.Goals as goal
 
 pub compare_exchange-requires : goal.compare_exchange-requires
 compare_exchange-requires g c =
@@ -18,9 +18,9 @@ compare_exchange-requires g c =
     let of = ap (λ m. m.of) offer.1 in
     let book = ap (λ w. w.book) gate in
     let seen = c.learn.ensures.0 ∙ (ap (λ s. s.book) c.again-seen.ensures ∙ c.self.invariant.0) in
-    let entry = ap (λ m. m.entry) offer.1 in
-    let wanted = ap (λ w. w ++ (g.M.Says.entry c.args.about) ∷ []) (sym c.self.view_is)
-    ∙ (ap (λ e. entries first log ++ e ∷ []) (sym entry) ∙ ap (λ i. entries i log ++ ask.entry ∷ []) (sym of)) in (
+    let said = ap (λ m. m.entries) offer.1 in
+    let wanted = ap (λ w. w ++ g.M.SaysAll.entries c.args.about) (sym c.self.view_is)
+    ∙ (ap (λ es. entries first log ++ es) (sym said) ∙ ap (λ i. entries i log ++ ask.entries) (sym of)) in (
       ap (λ w. w.tracked) gate,
       seen ∙ sym book,
       c.self.invariant.2 ∙ sym book,
@@ -38,9 +38,9 @@ invariant_of-self g c =
     let asked = c.plain-offer.ensures.1 in
     let of = ap (λ m. m.of) asked in
     let wrote = c.compare_exchange.ensures.7 log begins (ap (λ i. next_key i i log) of ∙ sym (ap (λ n. n.key) c.self.invariant.3)) in
-    let entry = g.M.Says.entry c.args.about in
+    let said = g.M.SaysAll.entries c.args.about in
     let longer = c.compare_exchange.new.seen.log in
-    let all = ap (λ w. w ++ entry ∷ []) (sym c.self.view_is) ∙ entries_written first log longer ask entry of (ap (λ m. m.entry) asked) wrote.more in
+    let all = ap (λ w. w ++ said) (sym c.self.view_is) ∙ entries_written first log longer ask said of (ap (λ m. m.entries) asked) wrote.more in
     let seen = c.compare_exchange.ensures.0 ∙ (c.learn.ensures.0 ∙ (ap (λ s. s.book) c.again-seen.ensures ∙ c.self.invariant.0)) in
     let key = own_key first longer ask of wrote.pen in (
       seen,
@@ -60,9 +60,9 @@ returns-clause-written g c =
     let asked = c.plain-offer.ensures.1 in
     let of = ap (λ m. m.of) asked in
     let wrote = c.compare_exchange.ensures.7 log begins (ap (λ i. next_key i i log) of ∙ sym (ap (λ n. n.key) c.self.invariant.3)) in
-    let entry = g.M.Says.entry c.args.about in
+    let said = g.M.SaysAll.entries c.args.about in
     let longer = c.compare_exchange.new.seen.log in
-    sym (ap (λ w. w ++ entry ∷ []) (sym c.self.view_is) ∙ entries_written first log longer ask entry of (ap (λ m. m.entry) asked) wrote.more)
+    sym (ap (λ w. w ++ said) (sym c.self.view_is) ∙ entries_written first log longer ask said of (ap (λ m. m.entries) asked) wrote.more)
 
 pub returns-clause-before : goal.returns-clause-before
 returns-clause-before g c =
