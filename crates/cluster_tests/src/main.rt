@@ -2,11 +2,11 @@
 #![tactic(auto)]
 
 #[cfg(test)]
-mod asking;
-#[cfg(test)]
 mod beside;
 #[cfg(test)]
 mod closings;
+#[cfg(test)]
+mod crowd;
 #[cfg(test)]
 mod faults;
 #[cfg(test)]
@@ -20,11 +20,17 @@ mod replaying;
 #[cfg(test)]
 mod rows;
 #[cfg(test)]
+mod scene;
+#[cfg(test)]
 mod traces;
 #[cfg(test)]
 mod transactions;
 #[cfg(test)]
 mod turns;
+#[cfg(test)]
+mod visit;
+#[cfg(test)]
+mod words;
 
 /// Nothing is built on a crate of tests, so it is a program, which does nothing.
 fn main() {}

@@ -2,257 +2,137 @@
 //!
 //! Of two shards `a` and `b` lie on the first, and `c` and `d` on the second.
 
-use crate::asking::{Numbers, closes, request, same_reply};
-use crate::naming::{WithShared, with_shared};
-use crate::rows::{MOST, Rows, ask_behind, ask_both};
-use cluster::Server;
-use serial_store::Tabled;
-use serving::Door;
-use shared_cluster::{Desk, Shared, Turns};
+use crate::crowd::Host;
+use crate::naming::{Course, MOST, with_shared};
+use crate::rows::two_ask;
 use std::alloc::Global;
-use std::sync::Wait;
 use std::test::Fail;
-use std::thread::Threads;
-use std::time::Clock;
 use test_support::holds;
 
-const LISTED: Rows<'static> = &[
-    ("MULTI", "+OK\r\n"),
-    ("SET a 1", "+QUEUED\r\n"),
-    ("LPUSH a x", "+QUEUED\r\n"),
-    ("INCR c", "+QUEUED\r\n"),
-    (
-        "EXEC",
-        "*3\r\n+OK\r\n-WRONGTYPE Operation against a key holding the wrong kind of value\r\n:1\r\n",
-    ),
-    ("MGET a c", "*2\r\n$1\r\n1\r\n$1\r\n1\r\n"),
-];
+const LISTED: &str = "MULTI => +OK|
+SET a 1 => +QUEUED|
+LPUSH a x => +QUEUED|
+INCR c => +QUEUED|
+EXEC => *3|+OK|-WRONGTYPE Operation against a key holding the wrong kind of value|:1|
+MGET a c => *2|$1|1|$1|1|";
 
-const SPOILT: Rows<'static> = &[
-    ("MULTI", "+OK\r\n"),
-    ("FOO", "-ERR unknown command\r\n"),
-    (
-        "EXEC",
-        "-EXECABORT Transaction discarded because of previous errors.\r\n",
-    ),
-    ("MULTI", "+OK\r\n"),
-    ("MULTI", "-ERR MULTI calls can not be nested\r\n"),
-    ("DISCARD", "+OK\r\n"),
-    ("DISCARD", "-ERR DISCARD without MULTI\r\n"),
-    ("MULTI", "+OK\r\n"),
-    ("EXEC", "*0\r\n"),
-];
+const SPOILT: &str = "MULTI => +OK|
+FOO => -ERR unknown command|
+EXEC => -EXECABORT Transaction discarded because of previous errors.|
+MULTI => +OK|
+MULTI => -ERR MULTI calls can not be nested|
+DISCARD => +OK|
+DISCARD => -ERR DISCARD without MULTI|
+MULTI => +OK|
+EXEC => *0|";
 
 /// One of the two threads has a list run over two shards, and asks for what it left; of the other nothing is executed.
 #[test]
-fn two_threads_have_lists(rt: HostRuntime) -> Result<(), Fail> {
-    ask_both(&rt, rt.alloc(), LISTED, SPOILT, 15, 2)
+fn two_threads_have_lists(rt: HostRuntime) {
+    two_ask(&rt, rt.alloc(), LISTED, SPOILT, "close => closed 15 2 0");
 }
 
 /// Lists that touch what the other thread's don't, one over two shards.
-const COUNTS: Rows<'static> = &[
-    ("MULTI", "+OK\r\n"),
-    ("INCR a", "+QUEUED\r\n"),
-    ("INCR c", "+QUEUED\r\n"),
-    ("EXEC", "*2\r\n:1\r\n:1\r\n"),
-    ("MULTI", "+OK\r\n"),
-    ("INCR c", "+QUEUED\r\n"),
-    ("INCR a", "+QUEUED\r\n"),
-    ("EXEC", "*2\r\n:2\r\n:2\r\n"),
-];
+const COUNTS: &str = "MULTI => +OK|
+INCR a => +QUEUED|
+INCR c => +QUEUED|
+EXEC => *2|:1|:1|
+MULTI => +OK|
+INCR c => +QUEUED|
+INCR a => +QUEUED|
+EXEC => *2|:2|:2|";
 
-const BESIDE_COUNTS: Rows<'static> = &[
-    ("MSET b 1 d 1", "+OK\r\n"),
-    ("MULTI", "+OK\r\n"),
-    ("MGET b d", "+QUEUED\r\n"),
-    ("SINTER e f", "+QUEUED\r\n"),
-    ("EXEC", "*2\r\n*2\r\n$1\r\n1\r\n$1\r\n1\r\n*0\r\n"),
-    ("INCR b", ":2\r\n"),
-];
+const BESIDE_COUNTS: &str = "MSET b 1 d 1 => +OK|
+MULTI => +OK|
+MGET b d => +QUEUED|
+SINTER e f => +QUEUED|
+EXEC => *2|*2|$1|1|$1|1|*0|
+INCR b => :2|";
 
 #[test]
-fn lists_over_two_shards(rt: HostRuntime) -> Result<(), Fail> {
-    ask_both(&rt, rt.alloc(), COUNTS, BESIDE_COUNTS, 14, 5)
+fn lists_over_two_shards(rt: HostRuntime) {
+    two_ask(
+        &rt,
+        rt.alloc(),
+        COUNTS,
+        BESIDE_COUNTS,
+        "close => closed 14 5 0",
+    );
 }
 
-/// A request at one of two desks, by its number, and the reply that is wanted.
-type Turn = (usize, &'static str, &'static str);
-
-/// Asks at a desk, which lets others pass then. The reply is to have this text.
-fn ask_at<T: Tabled, L: Server, R: Wait + Clock>(
-    alloc: Global,
-    desk: &mut Desk<'_, T, L, R>,
-    words: &str,
-    wanted: &str,
-) -> Result<(), Fail> {
-    let request = request(alloc, words)?;
-    let answer = desk.ask(request);
-    desk.rest();
-    match answer {
-        Ok(reply) => same_reply(alloc, words, &reply, wanted),
-        Err(_) => Err("no reply".into()),
-    }
+/// Follows a script with a new cluster. Gives the text that is left.
+fn follow(rt: &impl Host, alloc: Global, keeps: bool, script: &str) -> Vec<u8> {
+    with_shared(rt, alloc, MOST, keeps, &Course::SCRIPT, script)
 }
-
-/// Asks at two desks, in this order.
-fn ask_each<T: Tabled, L: Server, R: Wait + Clock>(
-    alloc: Global,
-    one: &mut Desk<'_, T, L, R>,
-    two: &mut Desk<'_, T, L, R>,
-    turns: &[Turn],
-) -> Result<(), Fail> {
-    for (seat, words, wanted) in turns {
-        if *seat == 0 {
-            ask_at(alloc, one, words, wanted)?;
-        } else {
-            ask_at(alloc, two, words, wanted)?;
-        }
-    }
-    Ok(())
-}
-
-/// Two desks ask in this order, and their seats stand. Then another one asks the others, and the cluster closes with these
-/// numbers.
-fn ask_and_close<T: Tabled, L: Server, R: Wait + Clock>(
-    rt: &R,
-    alloc: Global,
-    shared: &Shared<T, L>,
-    turns: &[Turn],
-    others: Rows<'_>,
-    numbers: Numbers,
-) -> Result<(), Fail> {
-    let mut one = Desk::new(rt, shared, shared.sit(rt)?, Turns::Own);
-    let mut two = Desk::new(rt, shared, shared.sit(rt)?, Turns::Own);
-    let asked = ask_each(alloc, &mut one, &mut two, turns);
-    shared.stand(rt, one.into_seat());
-    shared.stand(rt, two.into_seat());
-    asked?;
-    ask_behind(rt, alloc, shared, others)?;
-    closes(shared.close(rt), numbers)
-}
-
-/// Two desks ask in this order, another seat asks the others behind them, and the cluster closes with these numbers.
-#[derive(Drop)]
-struct AsksInTurn<'a> {
-    turns: &'a [Turn],
-    others: Rows<'a>,
-    numbers: Numbers,
-}
-
-impl WithShared for AsksInTurn<'_> {
-    fn go<T, L, R>(self, rt: &R, alloc: Global, shared: &Shared<T, L>) -> Result<(), Fail>
-    where
-        T: Tabled + Send + Sync,
-        L: Server + Send + Sync,
-        R: Threads + Wait + Clock + Sync,
-    {
-        ask_and_close(rt, alloc, shared, self.turns, self.others, self.numbers)
-    }
-}
-
-/// The same of a new cluster, which keeps no trace.
-fn ask_in_turn<R: Threads + Wait + Clock + Sync>(
-    rt: &R,
-    alloc: Global,
-    turns: &[Turn],
-    others: Rows<'_>,
-    numbers: Numbers,
-) -> Result<(), Fail> {
-    let asks = AsksInTurn {
-        turns,
-        others,
-        numbers,
-    };
-    with_shared(rt, alloc, MOST, false, asks)
-}
-
-#[rattlefmt::skip]
-const MIXED: [Turn; 11] = [
-    (0, "MULTI", "+OK\r\n"),
-    (1, "SET c 5", "+OK\r\n"),
-    (1, "MULTI", "+OK\r\n"),
-    (0, "INCR a", "+QUEUED\r\n"),
-    (1, "INCR c", "+QUEUED\r\n"),
-    (0, "INCR c", "+QUEUED\r\n"),
-    (1, "FOO", "-ERR unknown command\r\n"),
-    (0, "EXEC", "*2\r\n:1\r\n:6\r\n"),
-    (1, "EXEC", "-EXECABORT Transaction discarded because of previous errors.\r\n"),
-    (1, "GET c", "$1\r\n6\r\n"),
-    (0, "EXEC", "-ERR EXEC without MULTI\r\n"),
-];
 
 /// Of eleven requests SET, one EXEC and GET are executed.
-#[test]
-fn the_lists_of_two_seats_dont_mix(rt: HostRuntime) -> Result<(), Fail> {
-    ask_in_turn(&rt, rt.alloc(), &MIXED, &[], (11, 3, 0))
-}
-
-const LEFT_OPEN: [Turn; 2] = [(0, "MULTI", "+OK\r\n"), (0, "SET a 1", "+QUEUED\r\n")];
-
-const BEHIND_IT: Rows<'static> = &[
-    ("EXEC", "-ERR EXEC without MULTI\r\n"),
-    ("GET a", "$-1\r\n"),
-];
-
-#[test]
-fn a_list_ends_with_its_seat(rt: HostRuntime) -> Result<(), Fail> {
-    ask_in_turn(&rt, rt.alloc(), &LEFT_OPEN, BEHIND_IT, (4, 1, 0))
-}
-
-#[rattlefmt::skip]
-const WHOLE: [Turn; 9] = [
-    (0, "SET b 1", "+OK\r\n"),
-    (0, "MULTI", "+OK\r\n"),
-    (0, "SET c 2", "+QUEUED\r\n"),
-    (0, "DBSIZE", "+QUEUED\r\n"),
-    (0, "FLUSHALL", "+QUEUED\r\n"),
-    (0, "DBSIZE", "+QUEUED\r\n"),
-    (0, "PING", "+QUEUED\r\n"),
-    (0, "EXEC", "*5\r\n+OK\r\n:2\r\n+OK\r\n:0\r\n+PONG\r\n"),
-    (1, "MGET b c", "*2\r\n$-1\r\n$-1\r\n"),
-];
+const MIXED: &str = "desk; desk => 1; 2
+at 1 MULTI => +OK|
+at 2 SET c 5 => +OK|
+at 2 MULTI => +OK|
+at 1 INCR a => +QUEUED|
+at 2 INCR c => +QUEUED|
+at 1 INCR c => +QUEUED|
+at 2 FOO => -ERR unknown command|
+at 1 EXEC => *2|:1|:6|
+at 2 EXEC => -EXECABORT Transaction discarded because of previous errors.|
+at 2 GET c => $1|6|
+at 1 EXEC => -ERR EXEC without MULTI|
+leave 1; leave 2 => stood; stood
+sit; stand 3 => 3; stood
+close => closed 11 3 0";
 
 #[test]
-fn a_list_is_for_all_keys(rt: HostRuntime) -> Result<(), Fail> {
-    ask_in_turn(&rt, rt.alloc(), &WHOLE, &[], (9, 3, 0))
+fn the_lists_of_two_seats_dont_mix(rt: HostRuntime) {
+    follow(&rt, rt.alloc(), false, MIXED);
 }
 
-const MISREAD: Rows<'static> = &[
-    ("MULTI", "+OK\r\n"),
-    ("SET b 1 EX 10", "+QUEUED\r\n"),
-    ("EXEC", "*1\r\n-ERR syntax error\r\n"),
-];
+const LEFT_OPEN: &str = "desk; desk => 1; 2
+at 1 MULTI => +OK|
+at 1 SET a 1 => +QUEUED|
+leave 1; leave 2 => stood; stood
+sit => 3
+ask 3 EXEC => -ERR EXEC without MULTI|
+ask 3 GET a => $-1|
+stand 3 => stood
+close => closed 4 1 0";
 
-/// No packet came to a group in this trace.
-fn has_no_packet<T: Tabled, L: Server, R: Wait>(
-    rt: &R,
-    alloc: Global,
-    shared: &Shared<T, L>,
-) -> Result<(), Fail> {
-    let mut trace = Vec::new(alloc);
-    holds("a trace is kept", shared.write_trace(rt, &mut trace)?)?;
-    let text = str::from_utf8(trace.as_slice()).unwrap_or("\ndeliver");
-    holds("no packet", !text.contains("\ndeliver"))
+#[test]
+fn a_list_ends_with_its_seat(rt: HostRuntime) {
+    follow(&rt, rt.alloc(), false, LEFT_OPEN);
+}
+
+const WHOLE: &str = "desk; desk => 1; 2
+at 1 SET b 1 => +OK|
+at 1 MULTI => +OK|
+at 1 SET c 2 => +QUEUED|
+at 1 DBSIZE => +QUEUED|
+at 1 FLUSHALL => +QUEUED|
+at 1 DBSIZE => +QUEUED|
+at 1 PING => +QUEUED|
+at 1 EXEC => *5|+OK|:2|+OK|:0|+PONG|
+at 2 MGET b c => *2|$-1|$-1|
+leave 1; leave 2 => stood; stood
+sit; stand 3 => 3; stood
+close => closed 9 3 0";
+
+#[test]
+fn a_list_is_for_all_keys(rt: HostRuntime) {
+    follow(&rt, rt.alloc(), false, WHOLE);
 }
 
 /// What looks at no key is answered with no packet.
-#[derive(Drop)]
-struct AsksMisread;
-
-impl WithShared for AsksMisread {
-    fn go<T, L, R>(self, rt: &R, alloc: Global, shared: &Shared<T, L>) -> Result<(), Fail>
-    where
-        T: Tabled + Send + Sync,
-        L: Server + Send + Sync,
-        R: Threads + Wait + Clock + Sync,
-    {
-        ask_behind(rt, alloc, shared, MISREAD)?;
-        has_no_packet(rt, alloc, shared)?;
-        closes(shared.close(rt), (3, 0, 0))
-    }
-}
+const MISREAD: &str = "sit => 1
+ask 1 MULTI => +OK|
+ask 1 SET b 1 EX 10 => +QUEUED|
+ask 1 EXEC => *1|-ERR syntax error|
+stand 1 => stood
+trace => written
+close => closed 3 0 0";
 
 #[test]
 fn a_list_without_a_key_takes_no_packet(rt: HostRuntime) -> Result<(), Fail> {
-    with_shared(&rt, rt.alloc(), MOST, true, AsksMisread)
+    let trace = follow(&rt, rt.alloc(), true, MISREAD);
+    let text = str::from_utf8(trace.as_slice()).unwrap_or("\ndeliver");
+    holds("no packet", !text.contains("\ndeliver"))
 }
