@@ -11,17 +11,17 @@ ghost use Rattle.layer_results.specs.declared.done.DoneRow.{DoneRow};
 ghost use Rattle.resp.specs.declared.reply.Reply.{Reply};
 
 use super::counting::{executed_in, starved_in};
-use super::names::{ItsRun, Leading, Server, StepsOf};
+use super::names::{ItsFinish, Leading, Server, StepsOf};
 use super::ordered::History;
 use super::sealed::Ran;
 use super::tape::{COLLECT_SIZE, place, push_collected, push_run, take_back};
 use front::Front;
 use groups::ConnId;
-use history::{Itself, Part};
-use journal::Step;
+use history::Part;
 use layer_results::{Done, DoneRow};
 use resp::Reply;
 use serial_store::Tabled;
+use std::snapshot::Snapshot;
 
 /// How many steps settle a layer and collect what came of it: its Run, its Settle and a Collect.
 const STEPS_FINISHED: u64 = 3;
@@ -64,10 +64,9 @@ impl<T: Tabled, L: Server> History<T, L> {
             return Err(ran);
         };
         push_collected(&mut self.trace, conn, kept);
-        self.told.write::<&Done, ItsRun>(done);
-        self.told.write::<Step, Itself>(Step::Settle);
+        let came = Snapshot::of(done);
         self.told
-            .write_behind::<Step, Itself>(Step::Collect { conn }, behind);
+            .write_all_behind::<(Snapshot<Done>, ConnId), ItsFinish>((came, conn), behind);
         self.executed = self.executed.saturating_add(executed_in(done.rows()));
         self.starved = self.starved.saturating_add(starved_in(done));
         self.ran = runs;

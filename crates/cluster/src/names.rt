@@ -1,5 +1,6 @@
 //! What names a server, and which lists of its steps are legal.
 
+use groups::ConnId;
 use history::{Law, Naming, Says, SaysAll};
 use journal::Step;
 use layer_results::Done;
@@ -85,4 +86,16 @@ impl SaysAll<Snapshot<Done>, Step> for ItsSettle {
     ghost use Rattle.layer_results.specs.Results.{names_of};
 
     ghost entries = { λ done. Run (names_of done.value) ∷ Settle ∷ [] };
+}
+
+/// What is written of what came of a layer that is settled and collected at once: its Run, with what starved there, its Settle, and a
+/// Collect of this connection.
+pub struct ItsFinish;
+
+impl SaysAll<(Snapshot<Done>, ConnId), Step> for ItsFinish {
+    ghost use Rattle.std.specs.Prelude.{[], ◌∷◌};
+    ghost use Rattle.journal.specs.declared.step.Step.TheVariants.{Run, Settle, Collect};
+    ghost use Rattle.layer_results.specs.Results.{names_of};
+
+    ghost entries = { λ it. Run (names_of it.0.value) ∷ Settle ∷ Collect it.1 ∷ [] };
 }

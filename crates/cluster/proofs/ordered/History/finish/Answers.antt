@@ -1,19 +1,38 @@
-use Rattle.std.proofs.Common.{◌≡◌, ◌≢◌, ◌+◌, ◌≤◌, ◌++◌, ◌∷◌, [], length, refl, sym, ap, ◌∙◌, subst}
+use Rattle.std.proofs.Common.{◌≡◌, ◌≢◌, ◌+◌, ◌≤◌, ◌++◌, ◌∷◌, List, [], length, refl, sym, ap, ◌∙◌, subst, append_assoc}
 use mathlib.Core.List.{IsPrefix}
 use Rattle.cluster.proofs.Counts.{executed_more, starved_more, cuts_more}
-use Rattle.cluster.proofs.Finished.{collect_legal, finish_settle_legal, has_finished, history_finished}
-use Rattle.cluster.proofs.Histories.{history, history_still, left_so, of_layer, ran_more, run_legal, AreLegal}
+use Rattle.cluster.proofs.Finished.{collect_legal, has_finished, history_finished}
+use Rattle.cluster.proofs.Histories.{history, history_still, left_so, of_layer, ran_more, AreLegal}
 use Rattle.cluster.proofs.Settling.{IsBack, view, is_back}
 use Rattle.cluster.specs.Counting.{all_executed, all_starved, as_word, executed_in}
 use Rattle.cluster.specs.Finishing.{HasFinished, FinishesOnly}
 use Rattle.cluster.specs.Histories.{HistoryView, IsHistory}
 use Rattle.cluster.specs.Sealed.{RanView}
 use Rattle.cluster.specs.Traces.{ArePushed, IsPushed}
+use Rattle.groups.specs.declared.request.ConnId.{ConnId}
+use Rattle.journal.specs.declared.step.Step.{Step}
 use Rattle.journal.specs.declared.step.Step.TheVariants.{Run, Settle, Collect}
+use Rattle.layer_results.specs.declared.done.DoneRow.{DoneRow}
 use Rattle.layer_results.specs.Results.{names_of}
 use Rattle.cluster.proofs.ordered.History.finish.Given.{Over}
 use Rattle.cluster.proofs.ordered.History.finish.Goals.{After-is_legal-2, After-push_collected}
 use Rattle.cluster.proofs.ordered.History.finish.Goals as goal
+
+-- what is written of it: its Run, its Settle and a Collect, behind the steps before
+run_finished : (steps : List Step) (came done : List DoneRow) (conn : ConnId) → came ≡ done
+    → steps ++ Run (names_of came) ∷ Settle ∷ Collect conn ∷ []
+    ≡ ((steps ++ Run (names_of done) ∷ []) ++ Settle ∷ []) ++ Collect conn ∷ []
+run_finished steps came done conn is =
+    ap (λ d. steps ++ Run (names_of d) ∷ Settle ∷ Collect conn ∷ []) is
+    ∙ sym (ap (λ l. l ++ Collect conn ∷ []) (append_assoc steps (Run (names_of done) ∷ []) (Settle ∷ []))
+    ∙ append_assoc steps (Run (names_of done) ∷ Settle ∷ []) (Collect conn ∷ []))
+
+-- what stands before steps stands before two more
+behind_both : (seen steps : List Step) (one other : Step) → IsPrefix seen steps → IsPrefix seen ((steps ++ one ∷ []) ++ other ∷ [])
+behind_both seen steps one other before =
+    let more = before.0 ++ one ∷ other ∷ [] in
+    (more, sym (append_assoc seen before.0 (one ∷ other ∷ [])) ∙ ap (λ l. l ++ one ∷ other ∷ []) before.1
+    ∙ sym (append_assoc steps (one ∷ []) (other ∷ [])))
 
 -- the history as it was, and what came back of the layer that is out
 module _ (g : Over) (c : After-is_legal-2 g) where
@@ -66,27 +85,14 @@ invariant_of-self-in_default-finish_only g c =
       c.self.invariant.2,
     )
 
-pub write-requires : goal.write-requires
-write-requires g c =
-    let at = (goal.at.write-requires g c).After-is_legal-2 in
-    run_legal g.T.Tabled.table (h g at) c.self.invariant.0 (v g at) (back g at)
-
-pub write-requires-2 : goal.write-requires-2
-write-requires-2 g c =
-    let at = (goal.at.write-requires-2 g c).After-is_legal-2 in
-    let place = (goal.at.write-requires-2 g c).After-push_collected in
-    subst (λ l. AreLegal g.T.Tabled.table (l ++ Settle ∷ [])) (sym c.write.ensures)
-    (finish_settle_legal g.T.Tabled.table (h g at) c.self.invariant.0 (v g at) (back g at) c.in-Some-finish_only.conn
-    c.finish_only.new.front (does g place at))
-
-pub write_behind-requires : goal.write_behind-requires
-write_behind-requires g c =
-    let at = (goal.at.write_behind-requires g c).After-is_legal-2 in
-    let place = (goal.at.write_behind-requires g c).After-push_collected in
-    subst (λ l. AreLegal g.T.Tabled.table (l ++ Collect c.in-Some-finish_only.conn ∷ []))
-    (sym (c.write-2.ensures ∙ ap (λ l. l ++ Settle ∷ []) c.write.ensures))
-    (collect_legal g.T.Tabled.table (h g at) c.self.invariant.0 (v g at) (back g at) c.in-Some-finish_only.conn
-    c.finish_only.new.front (does g place at) c.self.inside.max_steps c.push_run.new.trace refl (run g at))
+pub write_all_behind-requires : goal.write_all_behind-requires
+write_all_behind-requires g c =
+    let at = (goal.at.write_all_behind-requires g c).After-is_legal-2 in
+    let place = (goal.at.write_all_behind-requires g c).After-push_collected in
+    let conn = c.in-Some-finish_only.conn in
+    subst (AreLegal g.T.Tabled.table) (sym (run_finished c.self.inside.told c.of-came.result.value c.done-done.result.now conn c.of-came.ensures))
+    (collect_legal g.T.Tabled.table (h g at) c.self.invariant.0 (v g at) (back g at) conn c.finish_only.new.front (does g place at)
+    c.self.inside.max_steps c.push_run.new.trace refl (run g at))
 
 pub invariant_of-self-2 : goal.invariant_of-self-2
 invariant_of-self-2 g c =
@@ -94,8 +100,8 @@ invariant_of-self-2 g c =
     let place = (goal.at.invariant_of-self-2 g c).After-push_collected in
     let in' = c.self.inside in
     let done = c.done-done.result.now in
-    let wrote = c.write_behind.ensures.written ∙ ap (λ l. l ++ Collect c.in-Some-finish_only.conn ∷ [])
-    (c.write-2.ensures ∙ ap (λ l. l ++ Settle ∷ []) c.write.ensures) in
+    let wrote = c.write_all_behind.ensures.written
+    ∙ run_finished in'.told c.of-came.result.value done c.in-Some-finish_only.conn c.of-came.ensures in
     let more = ran_more g.T.Tabled.table (h g at) c.self.invariant.0 (v g at) (back g at) in (
       subst (λ l. IsHistory g.T.Tabled.table
           (history c.finish_only.new.front in'.max_steps l c.runs-runs.result c.push_collected.new.trace)) (sym wrote)
@@ -114,17 +120,17 @@ returns-clause-finished g c =
     let at = (goal.at.returns-clause-finished g c).After-is_legal-2 in
     let place = (goal.at.returns-clause-finished g c).After-push_collected in
     let in' = c.self.inside in
-    let wrote = c.write-2.ensures ∙ ap (λ l. l ++ Settle ∷ []) c.write.ensures in
-    let all = c.write_behind.ensures.written ∙ ap (λ l. l ++ Collect c.in-Some-finish_only.conn ∷ []) wrote in
+    let all = c.write_all_behind.ensures.written
+    ∙ run_finished in'.told c.of-came.result.value c.done-done.result.now c.in-Some-finish_only.conn c.of-came.ensures in
     let done = c.done-done.ensures ∙ ap (λ (r : RanView). r.done) c.ran.view_is in
     let is = does g place at in
     let replied = c.reply_of.ensures is.row (c.into_parts-done.ensures.done ∙ sym c.done-done.ensures ∙ is.only) in
     let seen = c.args.behind.now in
-    let new = history c.finish_only.new.front in'.max_steps c.write_behind.new.self c.runs-runs.result c.push_collected.new.trace in
+    let new = history c.finish_only.new.front in'.max_steps c.write_all_behind.new.self c.runs-runs.result c.push_collected.new.trace in
     subst (λ d. HasFinished c.args.self.now d seen c.reply_of.result new) done
     (subst (λ o. HasFinished o c.done-done.result.now seen c.reply_of.result new) c.self.view_is
     (subst (λ l. HasFinished (h g at) c.done-done.result.now seen c.reply_of.result
     (history c.finish_only.new.front in'.max_steps l c.runs-runs.result c.push_collected.new.trace)) (sym all)
     (has_finished g.T.Tabled.table (h g at) c.self.invariant.0 (v g at) (back g at) c.in-Some-finish_only.conn c.finish_only.new.front is
     in'.max_steps c.push_run.new.trace refl (run g at) (left g at) c.push_collected.new.trace (pushed g place at) seen
-    c.reply_of.result replied (subst (IsPrefix seen) wrote c.write_behind.ensures.before))))
+    c.reply_of.result replied (behind_both seen in'.told (Run (names_of c.done-done.result.now)) Settle c.write_all_behind.ensures.before))))
