@@ -2,7 +2,7 @@
 use Rattle.std.proofs.Common.{◌≡◌, ℕ, ◌+◌, ◌<◌, ◌≤◌, List, [], ◌∷◌, ◌++◌, length, Option, Some, refl, sym, ◌∙◌, subst, arith}
 use Rattle.std.proofs.Common.{length-append}
 use mathlib.Core.List.{IsPrefix}
-use Rattle.cluster.proofs.Histories.{AreLegal, history, history_made, history_settled, kept_none, made_legal, settle_legal}
+use Rattle.cluster.proofs.Histories.{AreLegal, history, history_made, history_settled, kept_none, made_legal}
 use Rattle.cluster.proofs.Histories.{was_made, was_settled}
 use Rattle.cluster.proofs.Passing.{longer, one_longer, last_pushed}
 use Rattle.cluster.proofs.Settling.{IsBack}
@@ -42,9 +42,6 @@ module _ (t : Layout) (h : HistoryView) (is : IsHistory t h) (v : RanView) (back
 
   collects : Makes does.finishes.mid (Collect conn) effect new
   collects = subst (λ c. Makes does.finishes.mid (Collect c) effect new) (sym does.own) does.finishes.collects
-
-  pub finish_settle_legal : AreLegal t ((h.steps ++ Run (names_of v.done) ∷ []) ++ Settle ∷ [])
-  finish_settle_legal = settle_legal t h is v back does.finishes.mid settles
 
   module _ (most : ℕ) (ran : Option Tape) (same : most ≡ h.max_steps) (run : IsPushed h.trace (Run (names_of v.done)) ran) where
     -- the history once it has settled
