@@ -52,7 +52,7 @@ fn open_cluster<T: Tabled, R: Abort>(
     requires table { table ≡ T.table }
     requires most { (1 ≤ most) × (most ≤ GREATEST_STEPS) }
 {
-    let blanks: Blanks<T> = Blanks::open(alloc, most);
+    let blanks: Blanks<T> = Blanks::open(most);
     name_cluster::<T, Brand, R>(rt, alloc, table, most, keeps, blanks, script)
 }
 
@@ -134,7 +134,7 @@ fn open_shared<T: Tabled + Send + Sync, R: Host>(
     requires table { table ≡ T.table }
     requires most { (1 ≤ most) × (most ≤ GREATEST_STEPS) }
 {
-    let blanks: Blanks<T> = Blanks::open(alloc, most);
+    let blanks: Blanks<T> = Blanks::open(most);
     name_shared::<T, Brand, R>(rt, alloc, table, most, keeps, blanks, course, script)
 }
 

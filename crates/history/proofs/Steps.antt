@@ -1,124 +1,119 @@
--- The two steps on a book keep its rule.
-use Rattle.std.proofs.Common.{◌≡◌, ℕ, zero, suc, ◌<◌, ◌==◌, Bool, true, false, cond, List, [], ◌∷◌, ◌++◌, length, slice_set, refl, ap}
-use Rattle.std.proofs.Common.{sym, subst, ◌∙◌, arith, inl, None}
-use Rattle.std.proofs.lemmas.List.{append-nil}
+-- What the tokens own goes from one list to the next. Assumes `Logic`.
+use Rattle.std.proofs.Common.{ℕ, ◌⊎◌, List, [], ◌∷◌, ◌++◌, map, inl, inr, refl}
 use mathlib.Core.List.{IsPrefix}
-use prog.Atomic.{either}
-use Rattle.logbook.specs.Pages.{Cell, cell, gives, adds, nib, no_nib, may_write, step, Moves, Goes}
-use Rattle.history.specs.declared.rule.Marked.{Marked}
-use Rattle.history.specs.Pens.{entries, next_key, Spent, IsKept, Spares, Writes}
-use Rattle.history.proofs.Keys.{prefix_trans, prefix_between, entries_prefix, all_known, spent_stays, spent_more, entries_more, own_more}
-use Rattle.history.proofs.Keys.{own_next, set_stays, set_home, more_stays}
+use seplogic.Ra.Ura.{Ura}
+use base.Fraction.{full_share}
+use base.Growing.{latest, at_least, Least}
+use base.Logic.{SProp, ent, sep, ex, guard, upd, emp, via}
+use base.Fml.{Fml}
+use base.Shift.{Keyless}
+use base.Stored.{Gv, Coded}
+use types.Growing.{latest_new, latest_grows, latest_shows, latest_bounds, at_least_dup, at_least_join}
+use types.Kit.{‵, ◌⊛◌, some, given, later, ◌$◌, ◌∵◌, !, qed, by, move, keep, drop, split, pick, learn, show, check, done, use0, use1, use2}
+use types.Kit.{updating, await, now}
+use types.Logic.{Logic, sem}
+use types.Owned.{basic}
+use Rattle.history.specs.Kept.{lists, latest_owns, reached_owns}
+use Rattle.history.specs.Orders.{IsLonger}
+use Rattle.history.proofs.Lists.{prefix_refl, prefix_in, prefix_out, one_begins}
 
-module _ {E : Type 0} (legal : List E → Type 0) where
-  abbrev pub shown : List (Marked E) → List (Marked E)
-  shown log = []
+-- no thread's own token is in it
+module _ {E : Type 0} (code : E → Gv) (name : ℕ) (list : List E) where
+  pub latest_keyless : Keyless (latest_owns code name list)
+  unfolding latest_owns latest
+  latest_keyless = tt
 
-  abbrev pub moved : List (Marked E) → List (Marked E) → ℕ → Type 0
-  moved xs ys n = Unit {0}
+  pub reached_keyless : Keyless (reached_owns code name list)
+  unfolding reached_owns at_least
+  reached_keyless = tt
 
-  abbrev SpareGoes : List (Marked E) → Marked E → List Cell → List (Marked E) → Type 0
-  SpareGoes v e cs log = (0 < length cs) × ((cell cs 0).1 ≡ true) × Goes (IsKept legal) shown moved 0 (v, (no_nib, None))
-      (λ n. either (n == 0) 0 n) (Spares (step 0 0 0 e) (v, (no_nib, None))) cs log
+module _ {M : Type 1} {𝓤 : Ura M} (𝓛 : Logic 𝓤) {E : Type 0} (cv : Coded E) where
+  open 𝓛 use {H}
 
-  spares : (v : List (Marked E)) (e : Marked E) (rest : List Cell) (log : List (Marked E)) → ((k : ℕ) → Spent k ((0, true) ∷ rest) k log)
-      → ((k : ℕ) → legal (entries k log)) → SpareGoes v e ((0, true) ∷ rest) log
-  spares v e rest log spent legal' =
-      let cs : List Cell = (0, true) ∷ rest in
-      let ds : List Cell = (0, true) ∷ rest ++ (0, false) ∷ [] in
-      let all : log ++ [] ≡ log = append-nil log in (
-        omega arith,
-        refl,
-        (
-          adds,
-          [],
-          None,
-          tt,
-          record {
-            gate = (rest ++ (0, false) ∷ [], refl);
-            spent = λ k. subst (λ (w : List (Marked E)). Spent k ds k w) (sym all) (spent_stays k cs ds k log (more_stays cs (0, false)) (spent k));
-            is_legal = λ k. subst (λ (w : List (Marked E)). legal (entries k w)) (sym all) (legal' k);
-          },
-          inl (refl, refl),
-          refl,
-        ),
-      )
+  abbrev Pr : Type 2
+  Pr = SProp 𝓤
 
-  -- whatever the book is, the step gets a new pen
-  pub spare_moves : (v : List (Marked E)) (e : Marked E) → Moves (IsKept legal) shown moved 0 (v, (no_nib, None))
-      (λ n. either (n == 0) 0 n) (Spares (step 0 0 0 e) (v, (no_nib, None)))
-  spare_moves v e cs log kept pre away = subst (λ (c : List Cell). SpareGoes v e c log) (sym kept.gate.1)
-      (spares v e kept.gate.0 log (λ k. subst (λ (c : List Cell). Spent k c k log) kept.gate.1 (kept.spent k)) kept.is_legal)
+  abbrev ◌⊢◌ : Pr → Pr → Type 1
+  P ⊢ Q = ent 𝓤 P Q
 
-  abbrev WriteGoes : List (Marked E) → Marked E → ℕ → List Cell → List (Marked E) → Type 0
-  WriteGoes v e j cs log = (0 < length cs) × ((cell cs 0).1 ≡ true) × Goes (IsKept legal) shown moved 0 (v, (nib may_write j 0, None))
-      (λ n. either (n == 0) 0 n) (Writes (step 0 0 0 e) (v, (nib may_write j 0, None))) cs log
+  abbrev ◌∗◌ : Pr → Pr → Pr
+  P ∗ Q = sep 𝓤 P Q
 
-  -- who knows the entries of a history, and its next pen, knows them of each log between
-  abbrev KnowsAll : List (Marked E) → Marked E → ℕ → List (Marked E) → Type 0
-  KnowsAll v e j log = (t : List (Marked E)) → IsPrefix t v → next_key e.of e.of t ≡ j
-      → (entries e.of t ≡ entries e.of log) × (next_key e.of e.of t ≡ next_key e.of e.of log)
+  abbrev ⟦◌⟧ : Fml → Pr
+  ⟦ P ⟧ = sem 𝓛 P
 
-  legal_more : (k : ℕ) (e : Marked E) (log : List (Marked E)) → legal (entries k log)
-      → ((e.of == k) ≡ true → legal (entries k log ++ e.entries)) → legal (entries k (log ++ e ∷ []))
-  legal_more k e log was more = subst legal (sym (entries_more k log e)) (by_case (e.of == k) refl)
-    where
-      by_case : (b : Bool) → (e.of == k) ≡ b → legal (cond b (entries k log ++ e.entries) (entries k log))
-      by_case true is = more is
-      by_case false is = was
+  infix 26 ◌⊢◌
+  infixr 35 ◌∗◌
+  module _ (name : ℕ) where
+    abbrev All : List E → Fml
+    All = latest_owns cv.code name
 
-  number_same : (m n : ℕ) → (m == n) ≡ true → m ≡ n
-  number_same m n is = grind (arith, is)
+    abbrev Some : List E → Fml
+    Some = reached_owns cv.code name
 
-  writes : (u v : List (Marked E)) (e : Marked E) (j : ℕ) (rest : List Cell) (log : List (Marked E)) → KnowsAll v e j log → IsPrefix v log
-      → IsPrefix u v → next_key e.of e.of u ≡ j → legal (entries e.of u ++ e.entries)
-      → ((k : ℕ) → Spent k ((0, true) ∷ rest) k log) → ((k : ℕ) → legal (entries k log)) → j < length ((0, true) ∷ rest)
-      → (cell ((0, true) ∷ rest) j).1 ≡ false → WriteGoes v e j ((0, true) ∷ rest) log
-  writes u v e zero rest log knows pre begins key more spent was less away = absurd (cc away)
-  writes u v e (suc j) rest log knows pre begins key more spent was less away =
-      let cs : List Cell = (0, true) ∷ rest in
-      let ds : List Cell = (0, true) ∷ slice_set rest j (0, true) in
-      let known = knows u begins key in
-      let home : (cell ds (suc j)).1 ≡ true = set_home rest j 0 (omega (arith, less)) in
-      let at : next_key e.of e.of log ≡ suc j = sym known.1 ∙ key in
-      let own : legal (entries e.of log ++ e.entries) = subst (λ (es : List E). legal (es ++ e.entries)) known.0 more in (
-        omega arith,
-        refl,
-        (
-          gives,
-          e ∷ [],
-          None,
-          refl,
-          record {
-            gate = (slice_set rest j (0, true), refl);
-            spent = λ k. spent_more k ds k log e (spent_stays k cs ds k log (set_stays cs (suc j) 0) (spent k))
-                (λ is. let same : e.of ≡ k = number_same e.of k is in subst (λ (i : ℕ). (cell ds (next_key i i log)).1 ≡ true) same
-                (subst (λ (i : ℕ). (cell ds i).1 ≡ true) (sym at) home));
-            is_legal = λ k. legal_more k e log (was k) (λ is. subst (λ (i : ℕ). legal (entries i log ++ e.entries)) (number_same e.of k is) own);
-          },
-          inl (refl, refl),
-          (λ t p q. let all = knows t p q in record {
-            all = all.0 ∙ sym (prefix_between (entries e.of t) (entries e.of v) (entries e.of log) (entries_prefix e.of t v p)
-                (entries_prefix e.of v log pre) all.0);
-            more = own_more log e ∙ ap (λ (es : List E). es ++ e.entries) (sym all.0);
-            pen = own_next e.of log e;
-          }),
-        ),
-      )
+    pub twice : (xs : List E) → ⟦ Some xs ⟧ ⊢ ⟦ Some xs ⟧ ∗ ⟦ Some xs ⟧
+    unfolding reached_owns
+    twice xs = at_least_dup lists 𝓛 name (map cv.code xs)
 
-  -- whatever the book is, who has the unspent pen of a history adds entries to what he knows, which is all of it
-  pub write_moves : (u v : List (Marked E)) (e : Marked E) → IsPrefix u v → legal (entries e.of u ++ e.entries)
-      → Moves (IsKept legal) shown moved 0 (v, (nib may_write (next_key e.of e.of u) 0, None)) (λ n. either (n == 0) 0 n)
-      (Writes (step 0 0 0 e) (v, (nib may_write (next_key e.of e.of u) 0, None)))
-  write_moves u v e begins more cs log kept pre away =
-      let at = kept.gate.1 in
-      let there = subst (λ (c : List Cell). (j < length c) × ((cell c j).1 ≡ false)) at (away refl) in
-      subst (λ (c : List Cell). WriteGoes v e j c log) (sym at)
-      (writes u v e j kept.gate.0 log knows pre begins refl more (λ k. subst (λ (c : List Cell). Spent k c k log) at (kept.spent k))
-      kept.is_legal there.0 there.1)
-    where
-      j : ℕ
-      j = next_key e.of e.of u
+    -- ---- One more write
 
-      knows : KnowsAll v e j log
-      knows t p q = all_known e.of cs e.of t log (prefix_trans t v log p pre) (kept.spent e.of) (subst (λ (i : ℕ). (cell cs i).1 ≡ false) (sym q) (away refl).1)
+    under : (xs seen : List E) → ⟦ All xs ⟧ ∗ ⟦ Some seen ⟧ ⊢ guard 𝓤 (IsPrefix seen xs) (⟦ All xs ⟧ ∗ ⟦ Some seen ⟧)
+    unfolding latest_owns reached_owns
+    under xs seen = qed 𝓛 (‵ (All xs) ∷ ‵ (Some seen) ∷ []) ∵
+        use2 𝓛 (given (IsPrefix (map cv.code seen) (map cv.code xs)) (‵ (All xs) ⊛ ‵ (Some seen)))
+        (latest_bounds lists 𝓛 full_share name (map cv.code xs) (map cv.code seen)) $
+        learn ! (λ p. check ! (prefix_out cv seen xs p) $ done !)
+
+    shown : (xs : List E) → ⟦ All xs ⟧ ⊢ ⟦ All xs ⟧ ∗ ⟦ Some xs ⟧
+    unfolding latest_owns reached_owns
+    shown xs = latest_shows lists 𝓛 full_share name (map cv.code xs) (map cv.code xs) (prefix_refl (map cv.code xs))
+
+    grown : (xs more : List E) → ⟦ All xs ⟧ ⊢ H.⇛ ⟦ All (xs ++ more) ⟧
+    unfolding latest_owns
+    grown xs more = via 𝓤 _ (latest_grows lists 𝓛 name (map cv.code xs) (map cv.code (xs ++ more)) (prefix_in cv xs more)) (basic 𝓛 _)
+
+    pub adds : (xs seen more : List E) → ⟦ All xs ⟧ ∗ ⟦ Some seen ⟧
+        ⊢ H.⇛ (guard 𝓤 (IsPrefix seen xs) (⟦ All (xs ++ more) ⟧ ∗ ⟦ Some (xs ++ more) ⟧))
+    adds xs seen more = qed 𝓛 (‵ (All xs) ∷ ‵ (Some seen) ∷ []) ∵ updating ! $
+        use2 𝓛 (given (IsPrefix seen xs) (‵ (All xs) ⊛ ‵ (Some seen))) (under xs seen) $ learn ! (λ p. split ! $
+        use1 𝓛 (later (‵ (All (xs ++ more)))) (grown xs more) $ await ! tt $
+        use1 𝓛 (‵ (All (xs ++ more)) ⊛ ‵ (Some (xs ++ more))) (shown (xs ++ more)) $ split ! $ now ! $
+        check ! p $ keep ! (0 ∷ 1 ∷ []) $ done !)
+
+    -- ---- Two that were seen
+
+    abbrev Longer : List E → List E → List E → Pr
+    Longer xs ys zs = guard 𝓤 (IsLonger xs ys zs) ⟦ Some zs ⟧
+
+    joined : (xs ys : List E) → ⟦ Some xs ⟧ ∗ ⟦ Some ys ⟧
+        ⊢ ex 𝓤 (λ (gs : List Gv). guard 𝓤 (Least lists.le (map cv.code xs) (map cv.code ys) gs) ⟦ at_least lists name gs ⟧)
+    unfolding reached_owns
+    joined xs ys = at_least_join lists 𝓛 name (map cv.code xs) (map cv.code ys)
+
+    the_longer : (xs ys : List E) → IsPrefix xs ys ⊎ IsPrefix ys xs → ⟦ Some xs ⟧ ∗ ⟦ Some ys ⟧ ⊢ ex 𝓤 (Longer xs ys)
+    the_longer xs ys (inl p) = qed 𝓛 (‵ (Some xs) ∷ ‵ (Some ys) ∷ []) ∵
+        show ! (Longer xs ys) ys $ check ! (p, prefix_refl ys, inr refl) $ drop ! $ done !
+    the_longer xs ys (inr p) = qed 𝓛 (‵ (Some xs) ∷ ‵ (Some ys) ∷ []) ∵
+        show ! (Longer xs ys) xs $ check ! (prefix_refl xs, p, inl refl) $ keep ! (0 ∷ []) $ done !
+
+    pub learns : (xs ys : List E) → ⟦ Some xs ⟧ ∗ ⟦ Some ys ⟧ ⊢ ex 𝓤 (Longer xs ys)
+    learns xs ys = qed 𝓛 (‵ (Some xs) ∷ ‵ (Some ys) ∷ []) ∵ use1 𝓛 (‵ (Some xs) ⊛ ‵ (Some xs)) (twice xs) $ split ! $ move ! (2 ∷ []) $
+        use1 𝓛 (‵ (Some ys) ⊛ ‵ (Some ys)) (twice ys) $ split ! $ move ! (2 ∷ 0 ∷ []) $
+        use2 𝓛 (some (λ (gs : List Gv). given (Least lists.le (map cv.code xs) (map cv.code ys) gs) (‵ (at_least lists name gs))))
+        (joined xs ys) $ pick ! (λ gs. learn ! (λ least.
+        drop ! $ move ! (1 ∷ 0 ∷ []) $ by ! (the_longer xs ys (one_begins cv xs ys gs least.0 least.1))))
+
+  -- ---- A list of its own
+
+  abbrev Begun : ℕ → Pr
+  Begun name = ⟦ latest_owns cv.code name [] ⟧ ∗ ⟦ reached_owns cv.code name [] ⟧
+
+  fresh : emp 𝓤 ⊢ upd 𝓤 (ex 𝓤 (λ (name : ℕ). ⟦ latest_owns cv.code name [] ⟧))
+  unfolding latest_owns
+  fresh = latest_new lists 𝓛 []
+
+  pub begins : emp 𝓤 ⊢ H.⇛ (ex 𝓤 Begun)
+  begins = qed 𝓛 [] ∵ updating ! $
+      use0 𝓛 (later (some (λ (name : ℕ). ‵ (latest_owns cv.code name [])))) (via 𝓤 _ fresh (basic 𝓛 _)) $ await ! tt $ pick ! (λ name.
+      use1 𝓛 (‵ (latest_owns cv.code name []) ⊛ ‵ (reached_owns cv.code name [])) (shown name []) $ split ! $
+      now ! $ show ! Begun name $ done !)

@@ -1,3 +1,3 @@
 pub mod Names
-pub mod Pens
+pub mod Kept
 pub mod Orders

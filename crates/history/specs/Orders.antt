@@ -1,6 +1,10 @@
 -- What several threads know of what they wrote.
-use Rattle.std.specs.Prelude.{◌≡◌, List, [], ◌∷◌, ◌++◌}
+use Rattle.std.specs.Prelude.{◌≡◌, ◌⊎◌, List, [], ◌∷◌, ◌++◌}
 use mathlib.Core.List.{IsPrefix}
+
+-- the list is one of these, and both begin it
+abbrev pub IsLonger : {E : Type 0} → List E → List E → List E → Type 0
+IsLonger one other list = IsPrefix one list × IsPrefix other list × ((list ≡ one) ⊎ (list ≡ other))
 
 -- the entry may stand behind whatever legal list there is
 abbrev pub MayFollow : {E : Type 0} → (List E → Type 0) → E → Type 0

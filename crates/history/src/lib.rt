@@ -8,8 +8,8 @@
 
 mod laws;
 mod part;
-mod rule;
 mod threads;
+mod tokens;
 mod writer;
 
 pub use laws::{Alone, Itself, Law, Naming, Says, SaysAll};

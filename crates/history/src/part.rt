@@ -3,26 +3,24 @@ ghost use Rattle.std.specs.Prelude.{◌≡◌, ◌≤◌, length};
 ghost use mathlib.Core.List.{IsPrefix};
 
 use crate::laws::{Law, Naming};
-use crate::rule::{Marked, Rules};
-use logbook::Seen;
+use crate::tokens::Reached;
 use std::marker::{Model, PhantomData};
 
 /// A beginning of the history that was seen. It has no bytes and can go to any thread. Contracts see it as its entries.
 #[derive(Drop)]
 pub struct Part<L: Law, J: Naming> {
-    pub(crate) seen: Seen<Marked<L::Entry>, u64, Rules<L>>,
+    pub(crate) seen: Reached<L::Entry>,
     pub(crate) of: PhantomData<J>,
 }
 
 impl<L: Law, J: Naming> Model for Part<L, J> {
     ghost use Rattle.std.specs.Prelude.{◌≡◌, List};
-    ghost use Rattle.history.specs.Pens.{entries};
 
     ghost Value = { List L.Entry };
 
-    ghost view = { λ p. entries J.name.first p.seen.log };
+    ghost view = { λ p. p.seen.list };
 
-    ghost invariant = { λ p. (p.seen.book ≡ J.name.book) × L.legal (entries J.name.first p.seen.log) };
+    ghost invariant = { λ p. (p.seen.name ≡ J.name) × L.legal p.seen.list };
 }
 
 impl<L: Law, J: Naming> Part<L, J> {

@@ -1,48 +1,39 @@
 // The one who writes a history.
 ghost use Rattle.std.specs.Prelude.{◌≡◌, [], ◌∷◌, ◌++◌};
 ghost use mathlib.Core.List.{IsPrefix};
-ghost use Rattle.logbook.specs.Pages.{nib, may_write};
-ghost use Rattle.history.specs.Pens.{gate_of};
 
 use crate::laws::{Alone, Law, Naming, Says, SaysAll};
 use crate::part::Part;
-use crate::rule::{Marked, Next, Nothing, Rules, Spare, Write};
-use logbook::{Offer, Pen, Seen, Start, Word};
+use crate::tokens::{Latest, Reached};
 use std::marker::{Model, PhantomData};
 
 /// An empty history, which isn't named yet. Contracts see it as what names it.
 #[derive(Drop)]
 pub struct Unnamed<L: Law> {
-    gate: Word<Marked<L::Entry>, u64, Rules<L>>,
-    pen: Pen,
-    seen: Seen<Marked<L::Entry>, u64, Rules<L>>,
+    latest: Latest<L::Entry>,
+    seen: Reached<L::Entry>,
 }
 
 impl<L: Law> Model for Unnamed<L> {
     ghost use Rattle.std.specs.Prelude.{◌≡◌, []};
-    ghost use Rattle.logbook.specs.Pages.{nib, may_write};
     ghost use Rattle.history.specs.Names.{Name, name_coded};
-    ghost use Rattle.history.specs.Pens.{gate_of};
 
     ghost Value = { Name };
 
     ghost coded = { name_coded };
 
-    ghost view = { λ u. record { book = u.seen.book; first = u.pen.nib.key } };
+    ghost view = { λ u. u.latest.name };
 
-    ghost invariant = { λ u. (u.seen.log ≡ []) × (u.gate ≡ gate_of u.seen.book) × (u.pen.book ≡ u.seen.book)
-        × (u.pen.nib ≡ nib may_write u.pen.nib.key 0) × L.legal [] };
+    ghost invariant = { λ u. (u.latest.list ≡ []) × (u.seen.list ≡ []) × (u.seen.name ≡ u.latest.name) × L.legal [] };
 }
 
 impl<L: Law> Unnamed<L> {
-    /// Opens a history. `any` is a value of which an entry could be written; none is. It has no error.
-    pub fn open<X, M: Says<X, L::Entry>>(any: &X) -> Unnamed<L>
+    /// Opens a history. It has no error.
+    pub fn open() -> Unnamed<L>
         requires { L.legal [] }
     {
-        let (seen, mut first, _second) = Seen::open(Start::alone(), 0, 0);
-        let gate: Word<Marked<L::Entry>, u64, Rules<L>> = Word::tracked(0, &mut first);
-        let pen = spare::<L, X, Alone<M>>(&gate, &seen, any);
-        Unnamed { gate, pen, seen }
+        let (latest, seen) = Latest::new();
+        Unnamed { latest, seen }
     }
 
     /// The writer of this history, under its name.
@@ -50,36 +41,31 @@ impl<L: Law> Unnamed<L> {
         requires { self ≡ J.name }
         ensures { result ≡ [] }
     {
-        let Unnamed { gate, pen, seen } = self;
+        let Unnamed { latest, seen } = self;
         Writer {
-            gate,
-            pen,
+            latest,
             seen,
             of: PhantomData,
         }
     }
 }
 
-/// The only one who adds to a history: 8 bytes, whatever was written. Contracts see it as all of its entries.
+/// The only one who adds to a history. It has no bytes, whatever was written. Contracts see it as all of its entries.
 #[derive(Drop)]
 pub struct Writer<L: Law, J: Naming> {
-    gate: Word<Marked<L::Entry>, u64, Rules<L>>,
-    pen: Pen,
-    seen: Seen<Marked<L::Entry>, u64, Rules<L>>,
+    latest: Latest<L::Entry>,
+    seen: Reached<L::Entry>,
     of: PhantomData<J>,
 }
 
 impl<L: Law, J: Naming> Model for Writer<L, J> {
     ghost use Rattle.std.specs.Prelude.{◌≡◌, List};
-    ghost use Rattle.logbook.specs.Pages.{nib, may_write};
-    ghost use Rattle.history.specs.Pens.{entries, gate_of, next_key};
 
     ghost Value = { List L.Entry };
 
-    ghost view = { λ w. entries J.name.first w.seen.log };
+    ghost view = { λ w. w.latest.list };
 
-    ghost invariant = { λ w. (w.seen.book ≡ J.name.book) × (w.gate ≡ gate_of J.name.book) × (w.pen.book ≡ J.name.book)
-        × (w.pen.nib ≡ nib may_write (next_key J.name.first J.name.first w.seen.log) 0) × L.legal (entries J.name.first w.seen.log) };
+    ghost invariant = { λ w. (w.latest.name ≡ J.name) × (w.seen.name ≡ J.name) × (w.seen.list ≡ w.latest.list) × L.legal w.latest.list };
 }
 
 impl<L: Law, J: Naming> Writer<L, J> {
@@ -119,7 +105,7 @@ impl<L: Law, J: Naming> Writer<L, J> {
         self.write_all_behind::<X, Alone<M>>(about, part);
     }
 
-    /// Adds all entries that `M` says of the value at hand, which is dropped. It takes no longer than to add one.
+    /// Adds all entries that `M` says of the value at hand, which is dropped.
     pub fn write_all<X: Drop, M: SaysAll<X, L::Entry>>(&mut self, about: X)
         requires { L.legal (self.old ++ M.entries about) }
         ensures { self.new ≡ self.old ++ M.entries about }
@@ -138,41 +124,6 @@ impl<L: Law, J: Naming> Writer<L, J> {
         ensures written { self.new ≡ self.old ++ M.entries about }
         ensures before { IsPrefix part.now self.old }
     {
-        let pen = spare::<L, X, M>(&self.gate, &self.seen, &about);
-        let next = Next { about, pen };
-        let mut seen = self.seen.again();
-        seen.learn(&part.seen);
-        let mut offer: Offer<Marked<L::Entry>, u64, Rules<L>, Nothing> = seen.plain::<
-            Nothing,
-            Next<X>,
-            Write<M, J>,
-        >(&next);
-        let _ = self
-            .gate
-            .compare_exchange::<Write<M, J>, Nothing>(0, 0, &mut seen, &mut offer, &mut self.pen);
-        let Next { about: _, pen } = next;
-        self.pen = pen;
-        self.seen = seen;
+        self.seen = self.latest.add::<X, M>(&about, &part.seen);
     }
-}
-
-// A pen of its own, whatever was seen of the book.
-fn spare<L: Law, X, M: SaysAll<X, L::Entry>>(
-    gate: &Word<Marked<L::Entry>, u64, Rules<L>>,
-    seen: &Seen<Marked<L::Entry>, u64, Rules<L>>,
-    any: &X,
-) -> Pen
-    requires { gate.now ≡ gate_of seen.now.book }
-    ensures { (result.book ≡ seen.now.book) × (result.nib ≡ nib may_write result.nib.key 0) }
-{
-    let mut seen = seen.again();
-    let mut pen = seen.no_pen();
-    let mut offer: Offer<Marked<L::Entry>, u64, Rules<L>, Nothing> = seen.plain::<
-        Nothing,
-        X,
-        Spare<M>,
-    >(any);
-    let _ = gate.compare_exchange::<Spare<M>, Nothing>(0, 0, &mut seen, &mut offer, &mut pen);
-    let _made: Word<Marked<L::Entry>, u64, Rules<L>> = Word::tracked(0, &mut pen);
-    pen
 }

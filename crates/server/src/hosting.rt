@@ -117,7 +117,7 @@ where
     requires table { table ≡ T.table }
     requires range { InRange options.now }
 {
-    let blanks: Blanks<T> = Blanks::open(rt.alloc(), options.max_steps);
+    let blanks: Blanks<T> = Blanks::open(options.max_steps);
     serve_all::<T, Brand, R, W>(rt, listener, options, table, console, blanks, course)
 }
 

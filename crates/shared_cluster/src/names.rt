@@ -4,11 +4,8 @@ ghost use Rattle.std.specs.Prelude.{◌≡◌, ◌+◌, ◌≤◌, []};
 ghost use Rattle.journal.specs.declared.trace.TheConstants.{GREATEST_STEPS};
 
 use cluster::{Leading, RunsOf, Server, StepsOf};
-use history::{Itself, Unnamed, Writer};
-use journal::Step;
-use layer_results::Done;
+use history::{Unnamed, Writer};
 use serial_store::{Serial, Tabled};
-use std::alloc::Global;
 use std::sync::ledger::Blank;
 
 /// A ledger, and histories of steps and of a store's layers, which no type stands for yet. In neither anything is written.
@@ -21,14 +18,14 @@ pub struct Blanks<T: Tabled> {
 
 impl<T: Tabled> Blanks<T> {
     /// Those of a cluster that makes so many steps at most: its ledger has a part more.
-    pub fn open(alloc: Global, max_steps: u64) -> Self
+    pub fn open(max_steps: u64) -> Self
         requires few { max_steps ≤ GREATEST_STEPS }
         ensures { result.blank.parts ≡ max_steps + 1 }
     {
         Blanks {
             blank: Blank::new(max_steps + 1),
-            steps: Unnamed::<Leading<T>>::open::<Step, Itself>(&Step::Take),
-            runs: Unnamed::<Serial<T>>::open::<Done, Itself>(&Done::none(alloc)),
+            steps: Unnamed::<Leading<T>>::open(),
+            runs: Unnamed::<Serial<T>>::open(),
         }
     }
 

@@ -2,7 +2,7 @@
 
 ghost use Rattle.std.specs.Prelude.{◌≡◌};
 
-use history::{Itself, Law, Naming, Part, Unnamed, write_in_threads};
+use history::{Itself, Law, Naming, Part, Unnamed, Writer, write_in_threads};
 use std::marker::Brand;
 use std::mem::size_of;
 use std::process::Abort;
@@ -21,7 +21,7 @@ impl Law for AnyNumbers {
 
 #[test]
 fn two_threads(rt: HostRuntime) -> Result<(), Fail> {
-    let unnamed = Unnamed::open::<u64, Itself>(&0);
+    let unnamed = Unnamed::open();
     write_three::<Brand, HostRuntime>(&rt, unnamed)
 }
 
@@ -35,5 +35,6 @@ fn write_three<J: Naming + Send + Sync, R: Threads + Wait + Abort + Sync>(
     let orders = write_in_threads::<AnyNumbers, J, u64, Itself, R>(rt, writer, 1, 2, 3);
     orders.first.begins(&orders.last);
     assert!(rt; size_of::<Part<AnyNumbers, J>>() == 0);
+    assert!(rt; size_of::<Writer<AnyNumbers, J>>() == 0);
     Ok(())
 }
