@@ -1,6 +1,9 @@
 //! Requests that are submitted and taken at once.
 
-ghost use Rattle.std.specs.Prelude.{◌≡◌, ◌≤◌, ◌<◌, ◌+◌, [], ℕ, List, Some, None, false, IfOk, IfErr, OnErr, vec_capacity};
+ghost use Rattle.std.specs.Prelude.{◌≡◌, ◌≤◌, ◌<◌, ◌+◌, [], ℕ, List, Some, None, Ok, false, IfOk, IfErr, OnErr, vec_capacity};
+ghost use Rattle.command_table.specs.Reading.{reading};
+ghost use Rattle.command_table.specs.declared.command.Command.TheVariants.{Local};
+ghost use Rattle.command_table.specs.declared.local_commands.LocalCommand.TheVariants.{Ping};
 ghost use Rattle.placement.specs.Layout.{Layout};
 ghost use Rattle.resp.specs.Content.{content};
 ghost use Rattle.router.specs.Connection.{with_standing};
@@ -20,12 +23,13 @@ use super::asking::{answered, is_ping};
 use super::connection::{Connection, Standing};
 use super::router::{Idle, Router, discard};
 use super::submission::{Submission, SubmitFault};
+use command_table::LocalCommand;
 use groups::{ConnId, Groups, RequestId};
 use placement::Table;
 use resp::{Reply, Request};
 use sessions::is_control;
 use std::mem;
-use tasks::{answer_at_once, task_groups};
+use tasks::{answer_at_once, local, task_groups};
 use worded::{Worded, WordedFault};
 
 impl Router {
@@ -49,8 +53,11 @@ impl Router {
         let idle = self.idle(conn)?;
         // `len` is called for its clause that there is a word.
         let _words = words.len();
-        if self.has_open_list(conn) || is_control(words.word(0)) || is_ping(&words) {
+        if self.has_open_list(conn) || is_control(words.word(0)) {
             return self.submit_then_take(table, conn, words, taken);
+        }
+        if is_ping(&words) {
+            return Ok(self.answer_ping(conn, idle));
         }
         let asked = match Worded::read(self.alloc, words) {
             Ok(asked) => asked,
@@ -82,7 +89,7 @@ impl Router {
     }
 
     /// A request is submitted, and what it asks is taken.
-    // A call, since few requests come here: those of a list, and PING.
+    // A call, since few requests come here: those of a list.
     #[inline(never)]
     fn submit_then_take(
         &mut self,
@@ -102,6 +109,18 @@ impl Router {
             taken.push_reserved(asked);
         }
         Ok(sent)
+    }
+
+    /// PING without a word is answered.
+    // A call, as above.
+    #[inline(never)]
+    fn answer_ping(&mut self, conn: ConnId, idle: Idle) -> Submission
+        requires idle { IsIdleAt (connection self.old conn.0) idle }
+        requires few { idle.seq < GREATEST_NUMBER }
+        ensures { (t : Layout) (words : List (List ℕ)) → AreAlone self.old conn.0 words → reading words ≡ Ok (Local (Ping None))
+            → SubmitsAndTakes t conn.0 words self.old result [] self.new }
+    {
+        self.answer(conn, idle, local(LocalCommand::Ping { word: None }))
     }
 
     /// Words that can't be read are answered with why. The only error is want of memory.

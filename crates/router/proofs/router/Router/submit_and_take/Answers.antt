@@ -13,6 +13,14 @@ use Rattle.router.proofs.Queuing.{plain_asked}
 use Rattle.router.proofs.Standings.{looks_at_none, looks_at_some, told_waiting}
 use Rattle.router.proofs.router.Router.submit_and_take.Goals as goal
 
+pub returns-then-is_ping-clause-submitted : goal.returns-then-is_ping-clause-submitted
+returns-then-is_ping-clause-submitted c =
+    let none = no_control c.args.words c.word.result.now c.word.ensures (sym c.is_control.ensures ∙ c.if-is_control.false) in
+    let alone : AreAlone c.args.self.now c.args.conn.0 c.args.words = (sym c.has_open_list.ensures ∙ c.if-has_open_list.false, none) in
+    subst (λ (items : List Worded). SubmitsAndTakes c.args.table.now c.args.conn.0 c.args.words c.args.self.now c.answer_ping.result items
+    c.answer_ping.new.self) (sym c.requires.room.0)
+    (c.answer_ping.ensures c.args.table.now c.args.words alone (c.is_ping.ensures c.if-is_ping.true))
+
 pub returns-in-Err-clause-submitted : goal.returns-in-Err-clause-submitted
 returns-in-Err-clause-submitted c =
     let none = no_control c.args.words c.word.result.now c.word.ensures (sym c.is_control.ensures ∙ c.if-is_control.false) in
