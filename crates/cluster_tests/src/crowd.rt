@@ -154,12 +154,12 @@ where
     join(
         rt,
         move || carry(rt, shared, crowd),
-        move || ask_both(rt, alloc, shared, crowd),
+        move || two_turn(rt, alloc, shared, crowd),
     );
 }
 
-/// Both ask, and then the cluster is shut, where a thread drives it.
-fn ask_both<T, L, R>(rt: &R, alloc: Global, shared: &Shared<T, L>, crowd: &Crowd<'_>)
+/// Both ask, each of which makes the turns for its own where no thread drives; where one does the cluster is shut then.
+fn two_turn<T, L, R>(rt: &R, alloc: Global, shared: &Shared<T, L>, crowd: &Crowd<'_>)
 where
     T: Tabled + Send + Sync,
     L: Server + Send + Sync,

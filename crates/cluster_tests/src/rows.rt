@@ -11,7 +11,7 @@ use test_support::same_bytes;
 
 /// Two threads ask their rows of a new cluster, which closes so: once where each makes the turns for its own, and beside a
 /// thread that drives without a trace, and with one.
-pub(crate) fn two_ask(rt: &impl Host, alloc: Global, one: &str, two: &str, closes: &str) {
+pub(crate) fn two_ask<'a>(rt: &impl Host, alloc: Global, one: &'a str, two: &'a str, closes: &str) {
     for (drives, keeps) in [(false, false), (true, false), (true, true)] {
         let crowd = Crowd {
             one,
