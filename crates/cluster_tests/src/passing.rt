@@ -146,10 +146,7 @@ fn at_random(rt: &impl Abort, alloc: Global, step: &str) -> Result<Left, AllocEr
     for _ in 0..ASKED {
         let words = WORDS[dice.below(WORDS.len() as u64) as usize];
         let seat = dice.below(2) + 1;
-        write!(
-            script,
-            "{step} {seat} {words}; end {seat} => ?; ?\n"
-        )?;
+        write!(script, "{step} {seat} {words}; end {seat} => ?; ?\n")?;
     }
     script.push_str("stand 1; stand 2 => stood; stood")?;
     Ok(with_cluster(rt, alloc, 1_000_000, true, script.as_str()))

@@ -30,9 +30,11 @@ run_finished steps came done conn is =
 -- what stands before steps stands before two more
 behind_both : (seen steps : List Step) (one other : Step) → IsPrefix seen steps → IsPrefix seen ((steps ++ one ∷ []) ++ other ∷ [])
 behind_both seen steps one other before =
-    let more = before.0 ++ one ∷ other ∷ [] in
-    (more, sym (append_assoc seen before.0 (one ∷ other ∷ [])) ∙ ap (λ l. l ++ one ∷ other ∷ []) before.1
-    ∙ sym (append_assoc steps (one ∷ []) (other ∷ [])))
+    let more = before.0 ++ one ∷ other ∷ [] in (
+      more,
+      sym (append_assoc seen before.0 (one ∷ other ∷ [])) ∙ ap (λ l. l ++ one ∷ other ∷ []) before.1
+          ∙ sym (append_assoc steps (one ∷ []) (other ∷ [])),
+    )
 
 -- the history as it was, and what came back of the layer that is out
 module _ (g : Over) (c : After-is_legal-2 g) where

@@ -1,4 +1,4 @@
-use Rattle.std.proofs.Common.{◌≡◌, ◌≢◌, ℕ, List, ◌++◌, ◌∷◌, [], length, refl, sym, ap, ◌∙◌, subst, append_assoc}
+use Rattle.std.proofs.Common.{◌≡◌, List, ◌++◌, ◌∷◌, [], length, refl, sym, ap, ◌∙◌, subst, append_assoc}
 use mathlib.Core.List.{IsPrefix}
 use Rattle.cluster.proofs.Settling.{IsBack, view, is_back}
 use Rattle.cluster.proofs.Counts.{executed_more, starved_more, cuts_more}
@@ -8,8 +8,10 @@ use Rattle.cluster.specs.Histories.{HistoryView, IsHistory}
 use Rattle.cluster.specs.Layers.{IsSettled}
 use Rattle.cluster.specs.Sealed.{RanView}
 use Rattle.cluster.specs.Traces.{IsPushed}
+use Rattle.journal.specs.declared.step.Step.{Step}
 use Rattle.journal.specs.declared.step.Step.TheVariants.{Run, Settle}
 use Rattle.layer_results.specs.Results.{names_of}
+use Rattle.layer_results.specs.declared.done.DoneRow.{DoneRow}
 use Rattle.cluster.proofs.ordered.History.settle.Given.{Over}
 use Rattle.cluster.proofs.ordered.History.settle.Goals.{After-executed_in}
 use Rattle.cluster.proofs.ordered.History.settle.Goals as goal
