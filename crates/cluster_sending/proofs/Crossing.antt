@@ -47,8 +47,8 @@ router_send m w o =
     let connection = connection_send (standing_send w o) in
     let inside = inside_send connection (listed_send m) in search (sendable, inside) depth 40 fits 3000
 
-pub front_send : IsSend Router.the_row → IsSend Multicast.the_row → IsSend Front.the_row
-front_send r m = search (sendable, crosses) depth 40 fits 3000
+pub front_send : IsSend Worded.the_row → IsSend Router.the_row → IsSend Multicast.the_row → IsSend Front.the_row
+front_send w r m = search (sendable, crosses) depth 40 fits 3000
 
 -- the writer and the part of a history that they hold can, whatever is its law and its name
 pub cluster_send : (T L : RattleType) (t : tabled.Ghosts T.Denot) (s : server.Ghosts L.Denot) (l : ledger.Ghosts L.Denot)

@@ -75,6 +75,7 @@ pub fn halves_send()
     ensures front { IsSend front_type.the_row }
     ensures store { IsSend store_type.the_row }
 {
+    worded_sends();
     router_sends();
     store_sends();
     multicast_sends();
