@@ -1,5 +1,6 @@
 -- A request of words by themselves that is submitted and taken at once.
-use Rattle.std.proofs.Common.{◌≡◌, ℕ, suc, ◌+◌, ◌==◌, Bool, true, false, cond, List, [], ◌∷◌, ◌++◌, Option, Some, None, is_some, slice_get, arith, refl, ap, sym, subst, ◌∙◌}
+use Rattle.std.proofs.Common.{◌≡◌, ℕ, suc, ◌+◌, ◌==◌, Bool, true, false, cond, List, [], ◌∷◌, ◌++◌, Option, Some, None, is_some}
+use Rattle.std.proofs.Common.{slice_get, arith, refl, ap, sym, subst, ◌∙◌}
 use Rattle.std.proofs.lemmas.Bool.{eqb-true}
 use Rattle.groups.specs.declared.request.ConnId.{ConnId}
 use Rattle.groups.specs.declared.request.RequestId.{RequestId}
@@ -137,16 +138,17 @@ module _ (t : Layout) (conn : ConnId) (words : List (List ℕ)) (old : RouterVie
         );
       }
 
+-- a connection whose next request is out
+abbrev with_next_out : Known → Connection → Connection
+with_next_out known v = record { is_open = v.is_open; seq = known.seq + 1; floor = v.floor; standing = Taken }
+
 -- an idle connection whose request is out
 pub handed_over : (old new : RouterView) (conn : ConnId) (known : Known) → IsIdleAt (connection old conn.0) known
-    → ((v : Connection) × (connection old conn.0 ≡ Some v)
-    × Changes old new conn.0 (Some (record { is_open = v.is_open; seq = known.seq + 1; floor = v.floor; standing = Taken })))
+    → ((v : Connection) × (connection old conn.0 ≡ Some v) × Changes old new conn.0 (Some (with_next_out known v)))
     → Changes old new conn.0 (Some (stands known Taken))
 handed_over old new conn known idle handed =
     let same : handed.0 ≡ idle.idle.was = cc (handed.1, idle.idle.kept) in
-    let now : (let v : Connection = record { is_open = handed.0.is_open; seq = known.seq + 1; floor = handed.0.floor; standing = Taken } in v)
-    ≡ stands known Taken =
-    ap (λ (v : Connection). (let w : Connection = record { is_open = v.is_open; seq = known.seq + 1; floor = v.floor; standing = Taken } in w)) same
+    let now : with_next_out known handed.0 ≡ stands known Taken = ap (with_next_out known) same
     ∙ (λ k. record { is_open = idle.idle.live k; seq = known.seq + 1; floor = sym idle.floor k; standing = Taken }) in
     subst (λ v. Changes old new conn.0 (Some v)) now handed.2
 

@@ -50,7 +50,8 @@ loop-request-preserved c =
           (turn_at ready i d c.loop-request-test.true c.request-item.is) now.0 in
           let one = take_one t w (take i ready) d (drop (i + 1) ready) c.loop-request.router next c.take.new.self asked
           c.loop-request.jobs.items j (sym c.take.ensures.taken ∙ c.in-Some.is) c.in-Some.ensures.changes now.1
-          (ap (λ (x : Job). x.id) is_job) (ap (λ (x : Job). x.stamp) is_job) (ap (λ (x : Job). x.groups) is_job) (ap (λ (x : Job). x.asked) is_job) in
+          (ap (λ (x : Job). x.id) is_job) (ap (λ (x : Job). x.stamp) is_job) (ap (λ (x : Job). x.groups) is_job)
+          (ap (λ (x : Job). x.asked) is_job) in
           let front = sym (passed_at ready i d c.loop-request-test.true c.request-item.is) in (
             subst (λ ds. IsTaking t w ds (drop (i + 1) ready) c.take.new.self) front one.0,
             subst (λ ds. AreJobs w.asked ds c.push_reserved.new.self.items) front

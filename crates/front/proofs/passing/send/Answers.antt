@@ -17,8 +17,9 @@ returns-clause-as_before c = λ r takes.
     elim c.match-pop.branch [
       | in-Some w ↦
           let one = one_is_out r now id items c.pop.new.self.items w.in-Some.asked takes w.in-Some.ensures.items in
+          let out = subst (λ (list : List Worded). TakesOut r id list now) one takes in
           subst (λ it. IsAsBefore r it) (sym w.router-is)
-          (waits_again r now w.put_back.new.self id w.in-Some.asked (subst (λ (list : List Worded). TakesOut r id list now) one takes) w.put_back.ensures)
+          (waits_again r now w.put_back.new.self id w.in-Some.asked out w.put_back.ensures)
       | in_default w ↦
           let none : items ≡ [] = search rules in
           let out = subst (λ (list : List Worded). TakesOut r id list now) none takes in
