@@ -7,6 +7,7 @@
 
 mod answered;
 mod bulk_texts;
+mod name;
 mod reply;
 mod request;
 mod size;
@@ -14,6 +15,7 @@ mod write;
 
 pub use answered::{Answered, LONG, SHORT_BULK, text_block};
 pub use bulk_texts::BulkTexts;
+pub use name::{INLINE_BYTES, Name};
 pub use reply::{ErrorText, Reply};
 pub use request::Request;
 pub use size::{bulk_size, text_size};

@@ -2,9 +2,10 @@
 //!
 //! RESP2 sends a request as an array of bulk strings. The decoder makes requests, and the table of commands reads them.
 
-ghost use Rattle.std.specs.Prelude.{◌≡◌, ◌<◌, length, map, slice_get, Some, IfOk};
+ghost use Rattle.std.specs.Prelude.{◌≡◌, ◌<◌, ◌∷◌, length, map, slice_get, Some, IfOk};
 ghost use Rattle.texts.specs.Texts.{texts_of};
 
+use crate::name::Name;
 use std::alloc::{AllocError, Global};
 use std::marker::Model;
 
@@ -12,27 +13,34 @@ use std::marker::Model;
 /// private.
 #[derive(Drop)]
 pub struct Request {
+    name: Name,
     words: Vec<Vec<u8>>,
 }
 
 impl Model for Request {
-    ghost use Rattle.std.specs.Prelude.{List, length, ◌<◌};
+    ghost use Rattle.std.specs.Prelude.{List, ◌∷◌};
     ghost use Rattle.texts.specs.Texts.{Bytes, texts_of};
 
     ghost Value = { List Bytes };
 
-    ghost view = { λ r. texts_of r.words.items };
-
-    ghost invariant = { λ r. 0 < length r.words.items };
+    ghost view = { λ r. r.name ∷ texts_of r.words.items };
 }
 
 impl Request {
+    /// The request of a name, which is its first word, and the words behind it. It takes no memory.
+    pub fn new(name: Name, words: Vec<Vec<u8>>) -> Self
+        ensures { result ≡ name ∷ texts_of words.items }
+    {
+        Request { name, words }
+    }
+
     /// The request of these words, of which there is at least one. It takes no memory.
-    pub fn from_words(words: Vec<Vec<u8>>) -> Self
+    pub fn from_words(mut words: Vec<Vec<u8>>) -> Self
         requires { 0 < length words.items }
         ensures { result ≡ texts_of words.items }
     {
-        Request { words }
+        let name = Name::of_word(words.remove(0));
+        Request { name, words }
     }
 
     /// The request of a copy of these words, of which there is at least one; `AllocError` where there is no memory for
@@ -41,19 +49,21 @@ impl Request {
         requires { 0 < length words.now }
         ensures copied { IfOk result (λ r. r ≡ map (λ w. w.now) words.now) }
     {
-        let mut copies = Vec::with_capacity(alloc, words.len())?;
-        for word in words {
-            copies.push(Vec::from_slice(alloc, word)?)?;
-        }
-        Ok(Request { words: copies })
+        let [first, rest @ ..] = words else {
+            unreachable!();
+        };
+        let name = Name::copy_of(alloc, first)?;
+        let words = copies_of_borrowed(alloc, rest)?;
+        Ok(Request { name, words })
     }
 
     /// A copy of the request; `AllocError` where there is no memory for it.
     pub fn try_clone(&self, alloc: Global) -> Result<Self, AllocError>
         ensures copied { IfOk result (λ r. r ≡ self.now) }
     {
+        let name = Name::copy_of(alloc, self.name.as_slice())?;
         let words = copies_of(alloc, self.words.as_slice())?;
-        Ok(Request { words })
+        Ok(Request { name, words })
     }
 
     /// The number of words, which is at least one.
@@ -62,7 +72,7 @@ impl Request {
         ensures number { result ≡ length self.now }
         ensures some { 0 < result }
     {
-        self.words.len()
+        self.words.len() + 1
     }
 
     /// The word at place `i`, counted from 0.
@@ -70,16 +80,31 @@ impl Request {
         requires { i < length self.now }
         ensures { slice_get self.now i ≡ Some result.now }
     {
-        self.words[i].as_slice()
+        if i == 0 {
+            self.name.as_slice()
+        } else {
+            self.words[i - 1].as_slice()
+        }
     }
 
-    /// The words, given back with the memory that they lie in.
-    pub fn into_words(self) -> Vec<Vec<u8>>
-        ensures words { texts_of result.items ≡ self }
-        ensures some { 0 < length result.items }
+    /// The name and the words behind it, given back with the memory that they lie in.
+    pub fn into_parts(self) -> (Name, Vec<Vec<u8>>)
+        ensures { result.0 ∷ texts_of result.1.items ≡ self }
     {
-        self.words
+        let Request { name, words } = self;
+        (name, words)
     }
+}
+
+/// Copies of these words, in their order.
+fn copies_of_borrowed(alloc: Global, words: &[&[u8]]) -> Result<Vec<Vec<u8>>, AllocError>
+    ensures { IfOk result (λ copies. texts_of copies.items ≡ map (λ w. w.now) words.now) }
+{
+    let mut copies = Vec::with_capacity(alloc, words.len())?;
+    for word in words {
+        copies.push(Vec::from_slice(alloc, word)?)?;
+    }
+    Ok(copies)
 }
 
 /// Copies of these words, in their order.
