@@ -2,7 +2,7 @@
 //!
 //! Every request has one, and most have few bytes: these lie in the request itself, so that a name takes no memory.
 
-ghost use Rattle.std.specs.Prelude.{◌≡◌, ◌<◌, ◌≤◌, length, map, IfOk, OnErr};
+ghost use Rattle.std.specs.Prelude.{◌≡◌, ◌<◌, ◌≤◌, length, map, take, IfOk, OnErr};
 ghost use Rattle.std.specs.Char.{to_ascii_lowercase};
 ghost use Rattle.resp.specs.declared.name.TheConstants.{INLINE_BYTES};
 
@@ -22,7 +22,10 @@ pub struct Name {
 #[derive(Drop)]
 enum Place {
     /// Inside the name; what comes after the first `len` counts for nothing.
-    Inline { len: u8, bytes: [u8; INLINE_BYTES] },
+    Inline {
+        len: usize,
+        bytes: [u8; INLINE_BYTES],
+    },
 
     /// In memory of their own.
     Heap(Vec<u8>),
@@ -77,10 +80,7 @@ impl Name {
         let mut inside = [0; INLINE_BYTES];
         inside[..len].copy_from_slice(bytes);
         Name {
-            place: Place::Inline {
-                len: len as u8,
-                bytes: inside,
-            },
+            place: Place::Inline { len, bytes: inside },
         }
     }
 
@@ -90,7 +90,7 @@ impl Name {
         ensures { result.now ≡ self.now }
     {
         match &self.place {
-            Place::Inline { len, bytes } => &bytes[..*len as usize],
+            Place::Inline { len, bytes } => &bytes[..*len],
             Place::Heap(bytes) => bytes.as_slice(),
         }
     }
@@ -103,7 +103,7 @@ impl Name {
         let place = match self.place {
             Place::Inline { len, bytes } => Place::Inline {
                 len,
-                bytes: short_lower_case(bytes),
+                bytes: short_lower_case(len, bytes),
             },
             Place::Heap(bytes) => Place::Heap(long_lower_case(bytes)),
         };
@@ -111,12 +111,13 @@ impl Name {
     }
 }
 
-/// The bytes in lower case, all of them, since so many at once cost less than the first few.
+/// The first so many bytes in lower case, before the others.
 #[inline(always)]
-fn short_lower_case(mut bytes: [u8; INLINE_BYTES]) -> [u8; INLINE_BYTES]
-    ensures { result ≡ map to_ascii_lowercase bytes }
+fn short_lower_case(len: usize, mut bytes: [u8; INLINE_BYTES]) -> [u8; INLINE_BYTES]
+    requires { len ≤ INLINE_BYTES }
+    ensures { take len result ≡ map to_ascii_lowercase (take len bytes) }
 {
-    bytes.make_ascii_lowercase();
+    bytes[..len].make_ascii_lowercase();
     bytes
 }
 

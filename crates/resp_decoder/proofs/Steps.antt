@@ -3,8 +3,10 @@ use Rattle.std.proofs.Common.{◌≡◌, ℕ, suc, ◌+◌, ◌-◌, ◌^◌, �
 use Rattle.std.proofs.Common.{refl, sym, ap, subst, ◌∙◌, append_assoc, arith}
 use Rattle.std.specs.Prelude.{unwrap_or}
 use Rattle.std.specs.Result.{IsErrAnd}
+use Rattle.std.specs.Global.{Vec}
 use Rattle.std.specs.List.{AllByRecursion}
 use Rattle.std.proofs.lemmas.List.{length-append, length-drop, append-nil}
+use Rattle.texts.specs.Texts.{texts_of}
 use Rattle.resp_decoder.specs.declared.limits.Limits.{Limits}
 use Rattle.resp_decoder.specs.declared.parsing.Stop.{Stop}
 use Rattle.resp_decoder.specs.declared.parsing.Stop.TheVariants.{Open, Bad}
@@ -12,13 +14,30 @@ use Rattle.resp_decoder.specs.declared.progress.Progress.{Progress}
 use Rattle.resp_decoder.specs.Texts.{item_text, IsShort, Stream, IsOpen, IsFault}
 use Rattle.resp_decoder.specs.Parts.{head_text, words_text, part_text}
 use Rattle.resp_decoder.specs.Parsing.{word_at, head_at}
-use Rattle.resp_decoder.specs.Advancing.{words_of, held_bytes, IsSound, BeginsRequest, BeginsNone, Moves, Fills, Advances}
+use Rattle.resp_decoder.specs.Advancing.{named, words_of, held_bytes, IsSound, BeginsRequest, BeginsNone, Moves, Fills, Advances}
 use Rattle.resp_decoder.proofs.Resume.{behind, word_moves, all_push, head_of_some, item_from_parts, item_stops, head_stops, empty_front}
 use Rattle.resp_decoder.proofs.Resume.{part_is}
 use Rattle.resp_decoder.proofs.Streams.{stream_none, stream_then}
 use Rattle.resp_decoder.proofs.Items.{item_reads}
 
 -- ---- a word
+
+named_none : (name : Option (List ℕ)) (words others : List (List ℕ)) → named name words ≡ [] → named name others ≡ named name words
+named_none None words others none = refl
+named_none (Some first) words others none = absurd (omega (arith, ap length none))
+
+-- where no word has come, none has with other room for those behind the name
+pub still_none : (p : Progress) (words : List (Vec ℕ)) → words_of p ≡ [] → named p.name (texts_of words) ≡ words_of p
+still_none p words none = named_none p.name (texts_of p.words.items) (texts_of words) none
+
+-- a call that reads nothing on
+pub moves_not : (buffer : List ℕ) (old now new : Progress) → Moves buffer old now → words_of new ≡ words_of now
+    → new.start ≡ now.start → new.left ≡ now.left → Moves buffer old new
+moves_not buffer old now new moved words_is start_is left_is = record {
+  fits = rw start_is moved.fits;
+  total = rw (words_is, left_is) moved.total;
+  text = rw (words_is, start_is) moved.text;
+}
 
 pub fill_step : (bulk : ℕ) (buffer : List ℕ) (old now new : Progress) (word rest : List ℕ) → bulk < 2 ^ 32 → Moves buffer old now
     → AllByRecursion (λ w. length w ≤ bulk) (words_of now) → 0 < now.left

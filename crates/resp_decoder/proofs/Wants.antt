@@ -115,11 +115,6 @@ stands_word limits unread read e =
     let g = (word_reads limits.bulk limits.short_bulk).got unread read e in
     record { word = read.0; short = g.0; more = read.1; text = g.1 }
 
--- a list to which one was put isn't empty
-pub not_empty : (words : List (List ℕ)) (word : List ℕ) → words ++ word ∷ [] ≡ [] → ⊥
-not_empty [] word e = cc
-not_empty (w ∷ ws) word e = cc
-
 -- ---- how reading stops
 
 -- the bytes that follow give no count

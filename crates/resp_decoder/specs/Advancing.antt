@@ -1,5 +1,5 @@
 -- How far the held bytes are read, and what reading on does.
-use Rattle.std.specs.Prelude.{◌≡◌, ◌≢◌, ℕ, zero, suc, vec_capacity, ◌+◌, ◌<◌, ◌≤◌, List, [], ◌++◌, length, drop, Result, Ok, Err, Some}
+use Rattle.std.specs.Prelude.{◌≡◌, ◌≢◌, ℕ, zero, suc, vec_capacity, ◌+◌, ◌<◌, ◌≤◌, List, [], ◌∷◌, ◌++◌, length, drop, Result, Ok, Err, Option, None, Some}
 use Rattle.std.specs.List.{AllByRecursion}
 use Rattle.texts.specs.Texts.{texts_of}
 use Rattle.resp_decoder.specs.declared.fault.Fault.{Fault}
@@ -13,9 +13,14 @@ use Rattle.resp_decoder.specs.Texts.{bytes, word_marks, item_text, IsShort, IsLa
 use Rattle.resp_decoder.specs.Parts.{head_text, words_text, part_text}
 use Rattle.resp_decoder.specs.Parsing.{head_at, word_at}
 
+-- the name, and the words behind it; none before the name has come
+abbrev pub named : Option (List ℕ) → List (List ℕ) → List (List ℕ)
+named None words = []
+named (Some name) words = name ∷ words
+
 -- the words that have come of the open request
 abbrev pub words_of : Progress → List (List ℕ)
-words_of p = texts_of p.words.items
+words_of p = named p.name (texts_of p.words.items)
 
 -- the bytes that are held: those of the open request, and those of the buffer that are not read
 abbrev pub held_bytes : Progress → List ℕ → List ℕ
@@ -28,9 +33,13 @@ pub record IsSound (limits : Limits) (p : Progress) (buffer : List ℕ) : Type 0
   pub short : AllByRecursion (IsShort limits) (words_of p)
   pub idle : p.left ≡ 0 → words_of p ≡ []
 
+-- for how many words of the open request there is room, its name included
+abbrev pub room_of : Progress → ℕ
+room_of p = vec_capacity p.words + 1
+
 -- a count alone takes little room: no more than that for its first words is taken before one of them has come
 abbrev pub TakesLittle : Progress → Type 0
-TakesLittle p = words_of p ≡ [] → vec_capacity p.words ≤ FIRST_WORDS
+TakesLittle p = words_of p ≡ [] → (p.words.items ≡ []) × (room_of p ≤ FIRST_WORDS)
 
 -- ---- where memory may be wanted
 

@@ -6,7 +6,7 @@ use Rattle.resp_decoder.specs.declared.fault.Fault.TheVariants.{Memory}
 use Rattle.resp_decoder.specs.declared.limits.Limits.{Limits}
 use Rattle.resp_decoder.specs.declared.progress.Progress.{Progress}
 use Rattle.resp_decoder.specs.Texts.{item_text, IsLawful, Stream, IsOpen, IsFault}
-use Rattle.resp_decoder.specs.Advancing.{words_of, held_bytes, IsSound, TakesLittle}
+use Rattle.resp_decoder.specs.Advancing.{words_of, room_of, held_bytes, IsSound, TakesLittle}
 
 -- the limits, the bytes that were fed and neither handed out nor dropped, and the fault that was answered
 pub record Held : Type 0 where
@@ -25,7 +25,7 @@ pub record DecoderView : Type 0 where
   -- how many bytes the buffer has, those that are done with too, and how many it has room for
   pub buffered : ℕ
   pub room : ℕ
-  -- for how many words of the open request there is room
+  -- for how many words of the open request there is room, its name included
   pub word_room : ℕ
 
 -- a new decoder
@@ -87,7 +87,7 @@ view_of limits progress buffer fault = record {
   lacking = progress.left;
   buffered = length buffer.items;
   room = vec_capacity buffer;
-  word_room = vec_capacity progress.words;
+  word_room = room_of progress;
 }
 
 pub record DecoderInvariant (limits : Limits) (progress : Progress) (buffer : List ℕ) (fault : Option Fault) : Type 0 where

@@ -104,8 +104,11 @@ impl Decoder {
         match self.progress.advance(&self.buffer, self.limits) {
             Ok(()) => {
                 let alloc = *self.buffer.allocator();
+                let Some(name) = self.progress.name.take() else {
+                    unreachable!();
+                };
                 let words = mem::replace(&mut self.progress.words, Vec::new(alloc));
-                Ok(Some(Request::from_words(words)))
+                Ok(Some(Request::new(name, words)))
             }
             Err(Stop::Open) => Ok(None),
             Err(Stop::Bad(fault)) => match fault {

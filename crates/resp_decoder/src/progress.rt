@@ -3,7 +3,7 @@
 //! The words of the open request are kept as they come, so that no word is looked at a second time. The grammar is that
 //! of the RESP2 specification; the decoder reads on by `advance`.
 
-ghost use Rattle.std.specs.Prelude.{◌≡◌, ◌<◌, ◌≤◌, [], length, drop, IsErrOf, OnErr};
+ghost use Rattle.std.specs.Prelude.{◌≡◌, ◌<◌, ◌≤◌, [], ◌∷◌, ◌++◌, length, drop, IsErrOf, OnOk, OnErr};
 ghost use Rattle.std.specs.List.{AllByRecursion};
 ghost use Rattle.resp_decoder.specs.declared.fault.Fault.TheVariants as faults;
 ghost use Rattle.resp_decoder.specs.declared.parsing.Stop.TheVariants as stops;
@@ -13,16 +13,18 @@ ghost use Rattle.resp_decoder.specs.Advancing.{Advances, WantsMemory, StandsHead
 use crate::fault::Fault;
 use crate::limits::Limits;
 use crate::parsing::{Stop, head_of, word_of};
-use std::alloc::Global;
+use resp::Name;
+use std::alloc::{AllocError, Global};
 
 /// The room that is taken for a request's words before they come. A count alone takes no more.
 pub const FIRST_WORDS: u64 = 16;
 
-/// How far a buffer is read. The bytes before `start` are done with; `words` have come of a request that lacks `left`
-/// more, and none is under way where `left` is 0.
+/// How far a buffer is read. The bytes before `start` are done with; `name`, and then `words` behind it, have come of a
+/// request that lacks `left` more, and none is under way where `left` is 0.
 #[derive(Drop)]
 pub struct Progress {
     pub start: usize,
+    pub name: Option<Name>,
     pub words: Vec<Vec<u8>>,
     pub left: u64,
 }
@@ -36,6 +38,7 @@ impl Progress {
     {
         Progress {
             start: 0,
+            name: None,
             words: Vec::new(alloc),
             left: 0,
         }
@@ -93,7 +96,7 @@ impl Progress {
             let (count, rest) = head_of(&buffer[self.start..], limits.words)?;
             let count = count.unwrap_or(0);
             if count > 0 {
-                self.words = Vec::with_capacity(alloc, count.min(FIRST_WORDS) as usize)?;
+                self.words = Vec::with_capacity(alloc, (count.min(FIRST_WORDS) - 1) as usize)?;
                 self.start = buffer.len() - rest.len();
                 self.left = count;
                 return Ok(());
@@ -112,15 +115,33 @@ impl Progress {
         ensures ended { Fills bulk buffer.now self.new result }
         ensures little { TakesLittle self.new }
     {
-        let alloc = *self.words.allocator();
         while self.left > 0 {
             let (word, rest) = word_of(&buffer[self.start..], bulk)?;
-            let copy = Vec::from_slice(alloc, word)?;
-            self.words.reserve(1)?;
-            self.words.push_reserved(copy);
+            self.keep(word)?;
             self.start = buffer.len() - rest.len();
             self.left -= 1;
         }
+        Ok(())
+    }
+
+    /// Keeps a copy of the word that came. Want of memory changes nothing that is read.
+    #[inline(always)]
+    fn keep(&mut self, word: &[u8]) -> Result<(), AllocError>
+        requires little { TakesLittle self.old }
+        ensures ok { OnOk result (words_of self.new ≡ words_of self.old ++ word.now ∷ []) }
+        ensures err { OnErr result (words_of self.new ≡ words_of self.old) }
+        ensures start { self.new.start ≡ self.old.start }
+        ensures left { self.new.left ≡ self.old.left }
+        ensures little { TakesLittle self.new }
+    {
+        let alloc = *self.words.allocator();
+        if self.name.is_none() {
+            self.name = Some(Name::copy_of(alloc, word)?);
+            return Ok(());
+        }
+        let copy = Vec::from_slice(alloc, word)?;
+        self.words.reserve(1)?;
+        self.words.push_reserved(copy);
         Ok(())
     }
 
@@ -131,6 +152,7 @@ impl Progress {
         ensures left { self.new.left ≡ 0 }
         ensures little { TakesLittle self.new }
     {
+        self.name = None;
         self.words = Vec::new(*self.words.allocator());
         self.left = 0;
         self.start = start;
