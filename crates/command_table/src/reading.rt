@@ -9,7 +9,7 @@ ghost use Rattle.command_table.specs.declared.refusal.Refusal.TheVariants.{Unkno
 ghost use Rattle.command_table.specs.Keyed.{IsKeyed};
 ghost use Rattle.command_table.specs.Reading.{reading, rows, IsTold};
 ghost use Rattle.command_table.specs.CommandRow.{reading_among};
-ghost use Rattle.command_table.specs.Words.{lower, texts_of};
+ghost use Rattle.command_table.specs.Words.{texts_of};
 
 use crate::command::Command;
 use crate::family::{Family, family_of};
@@ -32,16 +32,9 @@ pub fn read(request: Request) -> Result<Command, Refusal>
     ensures told { IfOk result (λ command. IsTold request command) }
     ensures keyed { IfOk result IsKeyed }
 {
-    let mut words = request.into_words();
-    let name = in_lower_case(words.remove(0));
-    read_by_row(&name, words)
-}
-
-fn in_lower_case(mut name: Vec<u8>) -> Vec<u8>
-    ensures { result.items ≡ lower name.items }
-{
-    name.make_ascii_lowercase();
-    name
+    let (name, words) = request.into_parts();
+    let name = name.into_lower_case();
+    read_by_row(name.as_slice(), words)
 }
 
 /// Reads the words behind a name in lower case by the rows of its family.

@@ -46,6 +46,7 @@ fn keeps_the_words_of_a_request(rt: HostRuntime) -> Result<(), Fail> {
     has_words(&request, &large)?;
     let copy = request.try_clone(rt.alloc())?;
     has_words(&copy, &large)?;
-    let again = Request::from_words(copy.into_words());
+    let (name, behind) = copy.into_parts();
+    let again = Request::new(name, behind);
     same_bytes("the first word again", again.word(0), b"SET")
 }

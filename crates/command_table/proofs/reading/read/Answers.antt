@@ -1,17 +1,19 @@
-use Rattle.std.proofs.Common.{◌≡◌, ◌∷◌, sym, ◌∙◌}
-use Rattle.std.specs.List.{remove}
-use Rattle.command_table.specs.Words.{texts_of}
-use Rattle.texts.proofs.Lists.{first_text}
+use Rattle.std.proofs.Common.{◌≡◌, ap, Err, ◌∙◌}
+use Rattle.std.specs.Prelude.{unwrap_or}
+use Rattle.command_table.specs.declared.refusal.Refusal.TheVariants.{Unknown}
+use Rattle.command_table.specs.CommandRow.{reading_among}
+use Rattle.command_table.specs.Reading.{reading, rows}
+use Rattle.command_table.specs.Words.{Word, lower, texts_of}
 use Rattle.command_table.proofs.Keyed.{keyed_if}
 use Rattle.command_table.proofs.Tells.{told_if}
 use Rattle.command_table.proofs.reading.read.Goals as goal
 
 pub returns-clause-reading : goal.returns-clause-reading
 returns-clause-reading c =
-    let ws = c.into_words-words.result.items in
-    let apart = first_text ws c.remove.result c.into_words-words.ensures.some c.remove.ensures.value in
-    let whole : c.args.request ≡ c.remove.result.items ∷ texts_of (remove ws 0) = sym c.into_words-words.ensures.words ∙ apart in
-    rw whole (cc)
+    let words = texts_of c.into_parts-name.result.1.items in
+    let name_is : c.as_slice.result.now ≡ lower c.into_parts-name.result.0 = c.as_slice.ensures ∙ c.into_lower_case-name.ensures in
+    c.read_by_row.ensures ∙ ap (λ (name : Word). unwrap_or (reading_among rows name words) (Err Unknown)) name_is
+    ∙ ap reading c.into_parts-name.ensures
 
 pub returns-clause-told : goal.returns-clause-told
 returns-clause-told c = told_if c.args.request c.read_by_row.result (returns-clause-reading c)
