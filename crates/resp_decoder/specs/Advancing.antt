@@ -1,5 +1,6 @@
 -- How far the held bytes are read, and what reading on does.
-use Rattle.std.specs.Prelude.{◌≡◌, ◌≢◌, ℕ, zero, suc, vec_capacity, ◌+◌, ◌<◌, ◌≤◌, List, [], ◌∷◌, ◌++◌, length, drop, Result, Ok, Err, Option, None, Some}
+use Rattle.std.specs.Prelude.{◌≡◌, ◌≢◌, ℕ, zero, suc, vec_capacity, ◌+◌, ◌<◌, ◌≤◌, List, [], ◌∷◌, ◌++◌, length, drop}
+use Rattle.std.specs.Prelude.{Result, Ok, Err, Option, None, Some}
 use Rattle.std.specs.List.{AllByRecursion}
 use Rattle.texts.specs.Texts.{texts_of}
 use Rattle.resp_decoder.specs.declared.fault.Fault.{Fault}
