@@ -48,6 +48,7 @@ impl Links {
     }
 
     /// Takes the room for `count` more packets. The only error is want of memory, which changes nothing.
+    #[inline]
     pub fn reserve(&mut self, count: usize) -> Result<(), AllocError>
         ensures packets { self.new.packets ≡ self.old.packets }
         ensures room { OnOk result (count ≤ self.new.room) }
@@ -55,12 +56,22 @@ impl Links {
         ensures succeeds { count ≤ self.old.room → IsOk result }
         ensures unchanged { OnErr result (self.new ≡ self.old) }
     {
-        let len = self.packets.len();
-        if count <= self.packets.capacity() - len {
+        if count <= self.packets.capacity() - self.packets.len() {
             return Ok(());
         }
+        self.grow(count)
+    }
+
+    // The same where it doesn't fit: a call, so that what mostly fits is inlined.
+    #[inline(never)]
+    fn grow(&mut self, count: usize) -> Result<(), AllocError>
+        ensures packets { self.new.packets ≡ self.old.packets }
+        ensures room { OnOk result (count ≤ self.new.room) }
+        ensures room_kept { self.old.room ≤ self.new.room }
+        ensures unchanged { OnErr result (self.new ≡ self.old) }
+    {
         // The room at least doubles, so that sends one by one copy each packet a few times only.
-        self.packets.reserve_exact(count.max(len))
+        self.packets.reserve_exact(count.max(self.packets.len()))
     }
 
     /// Sends a packet: it stands behind all that are under way. It can't fail where there is room, and want of memory

@@ -98,6 +98,17 @@ impl Reached {
             *number = (*number).max(id.seq);
             return Ok(());
         }
+        self.put_first(id)
+    }
+
+    // The same for the first of its connection: a call, as it comes once a connection.
+    #[inline(never)]
+    fn put_first(&mut self, id: RequestId) -> Result<(), AllocError>
+        ensures numbers { OnOk result (self.new.numbers ≡ insert self.old.numbers id.conn.0 id.seq) }
+        ensures room { OnOk result (self.old.room ≤ self.new.room + 1) }
+        ensures unchanged { OnErr result (self.new.numbers ≡ self.old.numbers) }
+        ensures succeeds { 0 < self.old.room → IsOk result }
+    {
         let Ok(_) = self.numbers.insert(id.conn.0, id.seq) else {
             return Err(AllocError);
         };

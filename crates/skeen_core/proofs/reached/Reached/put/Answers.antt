@@ -1,6 +1,5 @@
-use Rattle.std.proofs.Common.{◌≡◌, ℕ, ◌==◌, cond, Option, Some, None, IsSome, max, refl, sym, ap, ◌∙◌, subst, arith}
-use Rattle.std.specs.Map.{lookup}
-use Rattle.std.specs.FinMap.{get, insert}
+use Rattle.std.proofs.Common.{◌≡◌, ℕ, Option, Some, None, IsSome, OnOk, max, refl, sym, ap, ◌∙◌, subst, arith}
+use Rattle.std.specs.FinMap.{from_entries, get, insert}
 use Rattle.skeen_core.specs.Group.{or_zero}
 use Rattle.skeen_core.specs.Reached.{ReachedView}
 use Rattle.skeen_core.proofs.Numbers.{get_shown, put_shown}
@@ -20,24 +19,24 @@ returns-in-Some-clause-numbers c =
     ∙ ap (λ (r : ReachedView). insert r.numbers conn c.max.result) c.self.view_is
     ∙ ap (insert numbers conn) (c.max.ensures ∙ ap (λ o. max (or_zero o) c.args.id.seq) was)
 
+-- no number was there
+absent : (c : goal.After-put_first) → get c.args.self.now.numbers c.args.id.conn.0 ≡ None
+absent c =
+    sym (ap (λ (r : ReachedView). get r.numbers c.args.id.conn.0) c.self.view_is)
+    ∙ get_shown c.self.inside.numbers.entries c.args.id.conn.0 ∙ sym c.in_default.ensures.value
+
 pub returns-clause-numbers : goal.returns-clause-numbers
 returns-clause-numbers c =
-    let es = c.self.inside.numbers.entries in
     let conn = c.args.id.conn.0 in
+    let seq = c.args.id.seq in
     let numbers = c.args.self.now.numbers in
-    let was : get numbers conn ≡ None =
-    sym (ap (λ (r : ReachedView). get r.numbers conn) c.self.view_is) ∙ get_shown es conn ∙ sym c.in_default.ensures.value in
-    let first : c.args.id.seq ≡ max 0 c.args.id.seq = omega arith in
-    put_shown es c.insert.new.self.entries conn c.args.id.seq (λ q. c.in-Ok.ensures.updates.0 q
-    ∙ ap (λ m. cond (conn == q) (Some c.args.id.seq) (lookup (λ k. q == k) m.entries)) c.get_mut.follows.holds-at-none)
-    ∙ ap (λ (r : ReachedView). insert r.numbers conn c.args.id.seq) c.self.view_is
-    ∙ ap (insert numbers conn) (first ∙ ap (λ o. max (or_zero o) c.args.id.seq) (sym was))
+    let first : seq ≡ max 0 seq = omega arith in
+    subst (λ m. OnOk c.put_first.result (c.put_first.new.self.numbers ≡ m))
+    (ap (λ m. insert (from_entries m.entries) conn seq) c.get_mut.follows.holds-at-none
+    ∙ ap (λ (r : ReachedView). insert r.numbers conn seq) c.self.view_is
+    ∙ ap (insert numbers conn) (first ∙ ap (λ o. max (or_zero o) seq) (sym (absent c))))
+    c.put_first.ensures.numbers
 
 -- where a number was there it was found
-pub returns-in_default-insert-clause-succeeds_again : goal.returns-in_default-insert-clause-succeeds_again
-returns-in_default-insert-clause-succeeds_again c = λ known.
-    let conn = c.args.id.conn.0 in
-    let was : get c.args.self.now.numbers conn ≡ None =
-    sym (ap (λ (r : ReachedView). get r.numbers conn) c.self.view_is) ∙ get_shown c.self.inside.numbers.entries conn
-    ∙ sym c.in_default.ensures.value in
-    absurd (let some = subst IsSome was known in cc)
+pub returns-clause-succeeds_again : goal.returns-clause-succeeds_again
+returns-clause-succeeds_again c = λ known. absurd (let some = subst IsSome (absent c) known in cc)
