@@ -1,6 +1,6 @@
 //! A copy of a request in one buffer.
 
-ghost use Rattle.std.specs.Prelude.{◌≡◌, ◌∷◌, IfOk, OnOk, map};
+ghost use Rattle.std.specs.Prelude.{◌≡◌, ◌∷◌, ◌≤◌, length, IsOk, IfOk, OnOk, map, vec_capacity};
 ghost use Rattle.packing.specs.Codes.{words_code, WordsFit};
 ghost use Rattle.std.specs.List.{AllByRecursion};
 
@@ -34,12 +34,30 @@ impl PackedRequest {
     pub fn copy_of(alloc: Global, words: &Request) -> Result<Self, AllocError>
         ensures { IfOk result (λ copy. copy ≡ words.now) }
     {
+        PackedRequest::copy_into(Vec::new(alloc), words)
+    }
+
+    /// A copy of the words in a buffer that was used before, which takes no memory where there is room in it; `AllocError`
+    /// where there is none for it.
+    pub fn copy_into(buffer: Vec<u8>, words: &Request) -> Result<Self, AllocError>
+        ensures copied { IfOk result (λ copy. copy ≡ words.now) }
+        ensures room { length (words_code words.now) ≤ vec_capacity buffer → IsOk result }
+    {
         let Some(size) = words_size(words) else {
             return Err(AllocError);
         };
-        let mut bytes = Vec::with_capacity(alloc, size)?;
+        let mut bytes = buffer;
+        bytes.clear();
+        bytes.reserve_exact(size)?;
         put_words(words, &mut bytes);
         Ok(PackedRequest { bytes })
+    }
+
+    /// The buffer in which the words lie, for other words.
+    pub fn into_buffer(self) -> Vec<u8>
+        ensures { result.items ≡ words_code self }
+    {
+        self.bytes
     }
 
     /// A word of this name, and behind it for each request of the list one word, in which its words lie: their code. The only

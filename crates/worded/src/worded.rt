@@ -1,10 +1,12 @@
 //! A batch with the words that say it.
 
-ghost use Rattle.std.specs.Prelude.{◌≡◌, Ok, IfOk, IfErr};
+ghost use Rattle.std.specs.Prelude.{◌≡◌, ◌≢◌, ◌≤◌, length, Ok, IfOk, IfErr, vec_capacity};
+ghost use Rattle.packing.specs.Codes.{words_code};
 ghost use Rattle.command_table.specs.Keyed.{IsKeyed};
 ghost use Rattle.command_table.specs.Reading.{reading};
 ghost use Rattle.sessions.specs.declared.batch.Batch.TheVariants.{Plain, Exec};
 ghost use Rattle.worded.specs.Faults.{IsFault};
+ghost use Rattle.worded.specs.declared.fault.WordedFault.TheVariants.{Memory};
 ghost use Rattle.worded.specs.Reading.{batch_reading, IsPlain};
 
 use super::fault::WordedFault;
@@ -31,7 +33,19 @@ impl Worded {
         ensures plain { IfOk result (λ asked. IsPlain words asked.batch) }
         ensures fault { IfErr result (IsFault words) }
     {
-        let Ok(copy) = PackedRequest::copy_of(alloc, &words) else {
+        Worded::read_into(Vec::new(alloc), words)
+    }
+
+    /// The same, with the copy in a buffer that was used before: it takes no memory where there is room in it.
+    // Inlined, so that the command is moved fewer times.
+    #[inline(always)]
+    pub fn read_into(buffer: Vec<u8>, words: Request) -> Result<Self, WordedFault>
+        ensures words { IfOk result (λ asked. asked.words ≡ words) }
+        ensures plain { IfOk result (λ asked. IsPlain words asked.batch) }
+        ensures fault { IfErr result (IsFault words) }
+        ensures room { length (words_code words) ≤ vec_capacity buffer → IfErr result (λ fault. fault ≢ Memory) }
+    {
+        let Ok(copy) = PackedRequest::copy_into(buffer, &words) else {
             return Err(WordedFault::Memory);
         };
         match read(words) {
