@@ -107,7 +107,7 @@ impl PlacedJob {
         if shards.len() == 1 {
             return run_on_one(alloc, shards, self, skip, gate);
         }
-        run_on_all::<Brand>(alloc, *table, shards, self, skip, gate)
+        run_on_all::<Brand>(alloc, table, shards, self, skip, gate)
     }
 }
 
@@ -134,19 +134,19 @@ fn run_on_one(
 #[inline(always)]
 fn run_on_all<F: SpanFrame>(
     alloc: Global,
-    table: Table,
+    table: &Table,
     shards: Vec<(GroupId, Shard)>,
     placed: PlacedJob,
     skip: &[SkipId],
     gate: &(dyn Gate + Sync),
 ) -> (JobRan, Vec<(GroupId, Shard)>)
-    requires table { table ≡ F.layout }
+    requires table { table.now ≡ F.layout }
     requires shards { IsSpan F.layout F.groups shards.items }
     requires keys { All (λ key. IsTrue (lies_on F.layout F.groups key)) (task_keys placed.job.asked.batch) }
     ensures shards { IsSpan F.layout F.groups result.1.items }
     ensures ran { HasRunOn skip.now placed (union shards.items) result.0 (union result.1.items) }
 {
-    let mut span: Span<F> = Span::new(table, shards);
+    let mut span: Span<'_, F> = Span::new(table, shards);
     let ran = placed.run(alloc, &mut span, skip, gate);
     (ran, span.into_shards())
 }
