@@ -2,3 +2,4 @@ pub mod DocumentLemmas
 pub mod Claiming
 pub mod Owning
 pub mod Addressed
+pub mod Walked

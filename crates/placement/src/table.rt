@@ -3,15 +3,17 @@
 
 ghost use Rattle.std.specs.Prelude.{◌≡◌, ℕ, ◌<◌, List, Any, Contains, true, false, IfOk, IfErr};
 ghost use Rattle.command_table.specs.Command.{keys_of, is_whole};
-ghost use Rattle.groups.specs.GroupSet.{has};
-ghost use Rattle.placement.specs.Groups.{groups_of};
+ghost use Rattle.command_table.specs.Held.{keys_held};
+ghost use Rattle.command_table.specs.Telling.{named};
+ghost use Rattle.groups.specs.GroupSet.{chosen, has};
+ghost use Rattle.placement.specs.Groups.{groups_of, has_key_on};
 ghost use Rattle.placement.specs.Layout.{IsTable, IsTableOf, IsRefused, IsWrong, Gives, shard_of};
 
 use crate::document::{Document, document_of};
 use crate::fault::TableFault;
 use crate::layout::{all_owned, known_shards, owners_of};
 use crate::slots::{SLOTS, slot_of};
-use command_table::{Command, keys_of};
+use command_table::{Command, Keys, keys_of};
 use groups::{GroupId, Groups};
 use std::alloc::Global;
 use std::marker::Model;
@@ -106,6 +108,17 @@ impl Table {
         if keys.is_all() {
             return Groups::all(shards);
         }
+        if keys.len() == 1 {
+            return Groups::empty().with(self.shard_of(keys.at(0)));
+        }
+        self.groups_of_each(keys)
+    }
+
+    // The shards of each of these keys. A call, so that a key alone pays nothing for it.
+    #[inline(never)]
+    fn groups_of_each(&self, keys: Keys<'_>) -> Groups
+        ensures { result ≡ chosen (λ shard. has_key_on self.now shard (named (keys_held keys.entry))) 0 self.now.shards }
+    {
         let mut groups = Groups::empty();
         for index in 0..keys.len() {
             groups = groups.with(self.shard_of(keys.at(index)));
