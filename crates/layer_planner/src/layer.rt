@@ -29,6 +29,7 @@ impl Model for Layer {
 impl Layer {
     /// The layer of these jobs, if no group is in two of their units, the stamps of each unit rise, and each stamp is of one
     /// of its request's groups: so a request of no group is in none. It takes no memory. Else the jobs are dropped.
+    #[inline(always)]
     pub fn gather(jobs: Vec<Job>) -> Option<Self>
         ensures gathered { IfSome result (λ layer. layer ≡ jobs.items) }
         ensures just_where { IsSome result ↔ MayStand jobs.items }

@@ -24,6 +24,14 @@ pub fn stand_together(jobs: &[Job]) -> bool
     if jobs.len() <= 1 {
         return true;
     }
+    many_stand_together(jobs)
+}
+
+/// The same where there are several: a call, so that a job alone pays nothing for what is seen of many.
+#[inline(never)]
+fn many_stand_together(jobs: &[Job]) -> bool
+    ensures { IsTrue result ↔ StandTogether jobs.now }
+{
     let mut seen = Seen::nothing();
     for job in jobs {
         if !seen.join(job) {
