@@ -14,11 +14,13 @@ past a rest shut =
     ap (λ n. drop n (a ∷ rest)) more
 
 pub hashed_8 : (rest : List ℕ) (hash : ℕ) → 8 ≤ length rest
-    → fold fnv1a_step (fnv1a_step (fnv1a_step (fnv1a_step (fnv1a_step (fnv1a_step (fnv1a_step (fnv1a_step (fnv1a_step hash (get_or rest 0 0))
+    → fold fnv1a_step (fnv1a_step (fnv1a_step (fnv1a_step (fnv1a_step (fnv1a_step (fnv1a_step (fnv1a_step (fnv1a_step hash
+    (get_or rest 0 0))
     (get_or rest 1 0)) (get_or rest 2 0)) (get_or rest 3 0)) (get_or rest 4 0)) (get_or rest 5 0)) (get_or rest 6 0)) (get_or rest 7 0))
     (take (length rest - 8) (drop 8 rest)) ≡ fold fnv1a_step hash rest
 hashed_8 (a ∷ b ∷ c ∷ d ∷ e ∷ f ∷ g ∷ h ∷ more) hash n =
-    ap (fold fnv1a_step (fnv1a_step (fnv1a_step (fnv1a_step (fnv1a_step (fnv1a_step (fnv1a_step (fnv1a_step (fnv1a_step hash a) b) c) d) e) f) g) h))
+    ap (fold fnv1a_step (fnv1a_step (fnv1a_step (fnv1a_step (fnv1a_step (fnv1a_step (fnv1a_step (fnv1a_step
+    (fnv1a_step hash a) b) c) d) e) f) g) h))
     (take_all _ more (omega arith))
 hashed_8 [] hash n = absurd (omega (arith, n))
 hashed_8 (a ∷ []) hash n = absurd (omega (arith, n))
@@ -42,7 +44,8 @@ opened_8 (a ∷ b ∷ c ∷ d ∷ e ∷ f ∷ g ∷ h ∷ more) n shut =
     let s2 = or_parts _ _ s3.0 in
     let s1 = or_parts _ _ s2.0 in
     past a (b ∷ c ∷ d ∷ e ∷ f ∷ g ∷ h ∷ more) s1.0 ∙ past b (c ∷ d ∷ e ∷ f ∷ g ∷ h ∷ more) s1.1 ∙ past c (d ∷ e ∷ f ∷ g ∷ h ∷ more) s2.1
-    ∙ past d (e ∷ f ∷ g ∷ h ∷ more) s3.1 ∙ past e (f ∷ g ∷ h ∷ more) s4.1 ∙ past f (g ∷ h ∷ more) s5.1 ∙ past g (h ∷ more) s6.1 ∙ past h more s7.1
+    ∙ past d (e ∷ f ∷ g ∷ h ∷ more) s3.1 ∙ past e (f ∷ g ∷ h ∷ more) s4.1 ∙ past f (g ∷ h ∷ more) s5.1 ∙ past g (h ∷ more) s6.1
+    ∙ past h more s7.1
     ∙ ap opened (sym (take_all _ more (omega arith)))
 opened_8 [] n shut = absurd (omega (arith, n))
 opened_8 (a ∷ []) n shut = absurd (omega (arith, n))
