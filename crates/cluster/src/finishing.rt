@@ -70,8 +70,9 @@ impl<T: Tabled, L: Server> History<T, L> {
         self.executed = self.executed.saturating_add(executed_in(done.rows()));
         self.starved = self.starved.saturating_add(starved_in(done));
         self.ran = runs;
-        let (done, _runs) = ran.ran.into_parts();
-        Ok(reply_of(done))
+        let (done, _runs, jobs) = ran.ran.into_parts();
+        self.front.keep_jobs(jobs);
+        Ok(reply_of(done, &mut self.rows))
     }
 
     /// Whether this came of the layer that is out, by its number, and steps are left for a Run, a Settle and a Collect.
@@ -114,8 +115,8 @@ pub(super) fn only_row(rows: &[DoneRow]) -> Option<&DoneRow>
     rows.first()
 }
 
-/// The reply of a layer's one request.
-fn reply_of(done: Done) -> Reply
+/// The reply of a layer's one request, whose row lay in what is room for one then.
+fn reply_of(done: Done, room: &mut Vec<DoneRow>) -> Reply
     requires { (row : DoneRow) × (reply : Reply) × (done ≡ row ∷ []) × (row.reply ≡ Some reply) }
     ensures { (row : DoneRow) → done ≡ row ∷ [] → row.reply ≡ Some result }
 {
@@ -123,6 +124,7 @@ fn reply_of(done: Done) -> Reply
     let Some(row) = rows.pop() else {
         unreachable!()
     };
+    *room = rows;
     let DoneRow {
         id: _id,
         stamp: _stamp,

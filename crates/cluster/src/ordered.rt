@@ -36,12 +36,13 @@ use groups::{ConnId, RequestId};
 use history::{Itself, Part, Writer};
 use journal::{Step, Trace};
 use layer_planner::Layer;
-use layer_results::Done;
+use layer_results::{Done, DoneRow};
 use placement::Table;
 use resp::Request;
 use serial_store::{Serial, Tabled};
 use std::alloc::{AllocError, Global};
 use std::marker::Model;
+use std::mem;
 use std::snapshot::Snapshot;
 
 /// How many steps are kept back for a layer that is out: its Run and its Settle.
@@ -65,6 +66,8 @@ pub(super) struct History<T: Tabled, L: Server> {
     pub(super) trace: Option<Tape>,
     pub(super) executed: u64,
     pub(super) starved: u64,
+    // Room for what comes of one request.
+    pub(super) rows: Vec<DoneRow>,
 }
 
 impl<T: Tabled, L: Server> Model for History<T, L> {
@@ -124,6 +127,7 @@ impl<T: Tabled, L: Server> History<T, L> {
             trace,
             executed: 0,
             starved: 0,
+            rows: Vec::new(alloc),
         })
     }
 
@@ -377,6 +381,7 @@ impl<T: Tabled, L: Server> History<T, L> {
             layer,
             number: self.front.layers(),
             told: self.told.part(),
+            rows: mem::replace(&mut self.rows, Vec::new(self.alloc)),
         };
         Ok((id, seen, Some(taken)))
     }
@@ -423,6 +428,7 @@ impl<T: Tabled, L: Server> History<T, L> {
                     layer,
                     number: self.front.layers(),
                     told: self.told.part(),
+                    rows: mem::replace(&mut self.rows, Vec::new(self.alloc)),
                 })
             }
             Err(fault) => {
@@ -463,7 +469,7 @@ impl<T: Tabled, L: Server> History<T, L> {
         let Ran { told, ran } = ran;
         let all_told = told.with(&self.told.part());
         all_told.is_legal();
-        let (done, runs) = ran.into_parts();
+        let (done, runs, _jobs) = ran.into_parts();
         let _all_ran = runs.with(&self.ran);
         runs.is_legal();
         let came = Snapshot::of(&done);

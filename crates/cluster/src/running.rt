@@ -31,9 +31,10 @@ pub fn run_taken<T: Tabled, L: Server, W: Workers>(
         layer,
         number,
         told,
+        mut rows,
     } = taken;
     let skip: [SkipId; 0] = [];
-    match store.run(number, layer, &skip, workers, gate) {
+    match store.run(number, layer, &mut rows, &skip, workers, gate) {
         Ok(ran) => {
             ran.holds();
             Ok(Ran { told, ran })
@@ -42,6 +43,7 @@ pub fn run_taken<T: Tabled, L: Server, W: Workers>(
             layer,
             number,
             told,
+            rows,
         })),
         Err(_) => Err(None),
     }

@@ -9,7 +9,7 @@ use super::names::{Leading, RunsOf, Server, StepsOf};
 use history::Part;
 use journal::{Steps, Trace};
 use layer_planner::Layer;
-use layer_results::Done;
+use layer_results::{Done, DoneRow};
 use serial_store::Tabled;
 use std::marker::Model;
 
@@ -20,6 +20,8 @@ pub struct Taken<T: Tabled, L: Server> {
     pub(super) layer: Layer,
     pub(super) number: u64,
     pub(super) told: Part<Leading<T>, StepsOf<L>>,
+    // Room for what comes of one request.
+    pub(super) rows: Vec<DoneRow>,
 }
 
 impl<T: Tabled, L: Server> Model for Taken<T, L> {

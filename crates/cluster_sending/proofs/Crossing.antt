@@ -12,6 +12,8 @@ use Rattle.front.specs.contracts.front.Front as Front
 use Rattle.history.proofs.part.Part.TheSendSync as part
 use Rattle.history.proofs.writer.Writer.TheSendSync as writer
 use Rattle.history.specs.declared.laws.Naming as naming
+use Rattle.layer_planner.specs.contracts.job.Job as Job
+use Rattle.layer_results.specs.contracts.done.DoneRow as DoneRow
 use Rattle.router.specs.contracts.connection.Connection as Connection
 use Rattle.router.specs.contracts.connection.Standing as Standing
 use Rattle.router.specs.contracts.listed.Listed as Listed
@@ -47,17 +49,18 @@ router_send m w o =
     let connection = connection_send (standing_send w o) in
     let inside = inside_send connection (listed_send m) in search (sendable, inside) depth 40 fits 3000
 
-pub front_send : IsSend Worded.the_row → IsSend Router.the_row → IsSend Multicast.the_row → IsSend Front.the_row
-front_send w r m = search (sendable, crosses) depth 40 fits 3000
+pub front_send : IsSend Worded.the_row → IsSend Job.the_row → IsSend Router.the_row → IsSend Multicast.the_row → IsSend Front.the_row
+front_send w j r m = search (sendable, crosses) depth 40 fits 3000
 
 -- the writer and the part of a history that they hold can, whatever is its law and its name
 pub cluster_send : (T L : RattleType) (t : tabled.Ghosts T.Denot) (s : server.Ghosts L.Denot) (l : ledger.Ghosts L.Denot)
-    → IsSend Front.the_row → IsSend (Cluster.the_row T L t s l)
-cluster_send T L t s l f = search (sendable, crosses, part.the_send, writer.the_send, book_send, share_send) depth 40 fits 3000
+    → IsSend Front.the_row → IsSend DoneRow.the_row → IsSend (Cluster.the_row T L t s l)
+cluster_send T L t s l f d = search (sendable, crosses, part.the_send, writer.the_send, book_send, share_send) depth 40 fits 3000
 
+-- a store can, and so can a row of what comes of its layers
 abbrev pub StoreSends : Type 0
-StoreSends = IsSend Store.the_row
+StoreSends = IsSend Store.the_row × IsSend DoneRow.the_row
 
 pub serial_store_send : (T J : RattleType) (t : tabled.Ghosts T.Denot) (n : naming.Ghosts J.Denot) → StoreSends
     → IsSend (SerialStore.the_row T J t n)
-serial_store_send T J t n b = search (sendable, crosses, writer.the_send) depth 40 fits 3000
+serial_store_send T J t n b = let store = b.0 in search (sendable, crosses, writer.the_send) depth 40 fits 3000

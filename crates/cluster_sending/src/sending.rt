@@ -2,6 +2,8 @@
 
 ghost use denote.Param.Send.{IsSend, IsSync};
 ghost use Rattle.router.specs.contracts.router.Router as router_type;
+ghost use Rattle.layer_planner.specs.contracts.job.Job as job_type;
+ghost use Rattle.layer_results.specs.contracts.done.DoneRow as row_type;
 ghost use Rattle.shard_exec.specs.contracts.store.Store as store_type;
 ghost use Rattle.multicast.specs.contracts.multicast.Multicast as multicast_type;
 ghost use Rattle.front.specs.contracts.front.Front as front_type;
@@ -10,6 +12,8 @@ ghost use Rattle.sessions.specs.contracts.member.Member as member_type;
 ghost use Rattle.worded.specs.contracts.worded.Worded as worded_type;
 
 use command_table::Command;
+use layer_planner::Job;
+use layer_results::DoneRow;
 use multicast::Multicast;
 use resp::Reply;
 use router::Outcome;
@@ -43,6 +47,20 @@ fn worded_sends()
     sends::<Worded>();
 }
 
+fn job_sends()
+    ensures { IsSend job_type.the_row }
+{
+    worded_sends();
+    sends::<Job>();
+}
+
+fn row_sends()
+    ensures { IsSend row_type.the_row }
+{
+    sends::<Reply>();
+    sends::<DoneRow>();
+}
+
 fn router_sends()
     ensures { IsSend router_type.the_row }
 {
@@ -70,12 +88,16 @@ fn outcome_sends()
     sends::<Outcome>();
 }
 
-/// It does nothing: its contract says that a front and a store, the halves of a cluster, may go to another thread.
+/// It does nothing: its contract says that a front and a store, the halves of a cluster, may go to another thread, and a row of what
+/// comes of a layer.
 pub fn halves_send()
     ensures front { IsSend front_type.the_row }
     ensures store { IsSend store_type.the_row }
+    ensures row { IsSend row_type.the_row }
 {
     worded_sends();
+    job_sends();
+    row_sends();
     router_sends();
     store_sends();
     multicast_sends();

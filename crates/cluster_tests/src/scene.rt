@@ -318,7 +318,10 @@ impl<T: Tabled, L: Server> Scene<T, L> {
         let layer = layer_of_no_front(rt, self.alloc);
         assert!(rt; self.store.may_run(&layer), "it addresses other groups");
         let workers = InTurn(NonZeroUsize::MIN);
-        let ran = self.store.run(number, layer, &[], &workers, &OpenGate);
+        let mut room = Vec::new(self.alloc);
+        let ran = self
+            .store
+            .run(number, layer, &mut room, &[], &workers, &OpenGate);
         assert!(rt; ran.is_ok(), "the layer of no front is run");
         self.store.count()
     }

@@ -3,6 +3,7 @@
 ghost use Rattle.std.specs.Prelude.{◌≡◌, IfOk};
 ghost use Rattle.front.specs.Fronts.{IsNew};
 
+use layer_planner::Job;
 use multicast::Multicast;
 use placement::Table;
 use router::Router;
@@ -25,6 +26,8 @@ pub struct Front {
     pub(super) out: Vec<Delivered>,
     // Room for what a request asks that passes.
     pub(super) asked: Vec<Worded>,
+    // Room for its job.
+    pub(super) jobs: Vec<Job>,
     pub(super) steps: u64,
     pub(super) layers: u64,
 }
@@ -71,6 +74,7 @@ impl Front {
             multicast,
             out: Vec::new(alloc),
             asked: Vec::new(alloc),
+            jobs: Vec::new(alloc),
             steps: 0,
             layers: 0,
         })

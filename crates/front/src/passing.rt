@@ -32,6 +32,7 @@ use resp::Request;
 use router::{Router, Submission, SubmitFault};
 use skeen_core::Delivered;
 use std::alloc::{AllocError, Global};
+use std::mem;
 use worded::Worded;
 
 impl Front {
@@ -66,9 +67,9 @@ impl Front {
             conn,
             words,
         )?;
-        let Some((jobs, request)) = deliver_at_once(
-            self.alloc,
+        let Some(request) = deliver_at_once(
             &mut self.out,
+            &mut self.jobs,
             &mut self.multicast,
             &sent,
         ) else {
@@ -82,9 +83,24 @@ impl Front {
             return Ok((sent.id, None));
         };
         let groups = sent.groups.len() as u64;
-        let layer = hand_out(&mut self.out, jobs, request, &mut self.asked);
+        let layer = hand_out(
+            self.alloc,
+            &mut self.out,
+            &mut self.jobs,
+            request,
+            &mut self.asked,
+        );
         self.steps += groups * groups + 2;
         Ok((sent.id, Some(layer)))
+    }
+
+    /// Keeps a list of jobs that is no longer needed as room for the job of a request that passes, where it is small.
+    pub fn keep_jobs(&mut self, jobs: Vec<Job>)
+        ensures { self.new ≡ self.old }
+    {
+        if jobs.capacity() <= GREATEST_KEPT {
+            self.jobs = jobs;
+        }
     }
 }
 
@@ -135,15 +151,16 @@ fn send(router: &mut Router, multicast: &mut Multicast, asked: &mut Vec<Worded>,
 
 /// The layer of this request alone, of which this was taken; it is out then. There is room for it.
 fn hand_out(
+    alloc: Global,
     out: &mut Vec<Delivered>,
-    mut jobs: Vec<Job>,
+    jobs: &mut Vec<Job>,
     request: Delivered,
     asked: &mut Vec<Worded>,
 ) -> Layer
     requires waits { (t : Layout) × (w : World) × (r r' : RouterView) × IsTaking t w [] (request ∷ []) r
         × TakesOut r request.id asked.old.items r' }
     requires none_out { (out.old.items ≡ []) × (1 ≤ vec_capacity out.old) }
-    requires no_jobs { (jobs.items ≡ []) × (1 ≤ vec_capacity jobs) }
+    requires no_jobs { (jobs.old.items ≡ []) × (1 ≤ vec_capacity jobs.old) }
     ensures out { out.new.items ≡ request ∷ [] }
     ensures taken { (t : Layout) (w : World) (r r' : RouterView) → IsTaking t w [] (request ∷ []) r
         → TakesOut r request.id asked.old.items r' → IsTaking t w (request ∷ []) [] r' × AreJobs w.asked (request ∷ []) result }
@@ -153,11 +170,14 @@ fn hand_out(
     };
     jobs.push_reserved(job_of(&request, asked));
     out.push_reserved(request);
-    let Some(layer) = Layer::gather(jobs) else {
+    let Some(layer) = Layer::gather(mem::replace(jobs, Vec::new(alloc))) else {
         unreachable!()
     };
     layer
 }
+
+/// So long is a list of jobs at most that is kept.
+const GREATEST_KEPT: usize = 16;
 
 /// So many groups may a request address that is delivered at once: its packets are their square.
 const GREATEST_AT_ONCE: usize = 8;
@@ -166,40 +186,40 @@ const GREATEST_AT_ONCE: usize = 8;
 /// then. None where it isn't so simple, or where there is no memory: then nothing changes but the room.
 #[inline]
 fn deliver_at_once(
-    alloc: Global,
     out: &mut Vec<Delivered>,
+    jobs: &mut Vec<Job>,
     multicast: &mut Multicast,
     sent: &Submission,
-) -> Option<(Vec<Job>, Delivered)>
+) -> Option<Delivered>
     requires no_packet { multicast.old.packets ≡ [] }
     requires none_ready { (d : Delivered) → ¬ IsReady (queue_of multicast.old.queues) d }
     requires comes { (g : ℕ) → has sent.now.groups g ≡ true
         → MayBeDelivered multicast.old (record { to = g; id = sent.now.id; body = Body.Start sent.now.floor sent.now.groups }) }
     ensures out { out.new.items ≡ out.old.items }
     ensures room { IfSome result (λ _. length out.new.items + 1 ≤ vec_capacity out.new) }
-    ensures no_jobs { IfSome result (λ it. (it.0.items ≡ []) × (1 ≤ vec_capacity it.0)) }
+    ensures no_jobs { IfSome result (λ _. (jobs.new.items ≡ []) × (1 ≤ vec_capacity jobs.new)) }
     ensures few { IfSome result (λ _. length sent.now.groups ≤ 8) }
-    ensures named { IfSome result (λ it. it.1.id ≡ sent.now.id) }
-    ensures passed { IfSome result (λ it. PassesAlone multicast.old sent.now.id sent.now.floor sent.now.groups it.1 multicast.new) }
+    ensures named { IfSome result (λ request. request.id ≡ sent.now.id) }
+    ensures passed { IfSome result (λ it. PassesAlone multicast.old sent.now.id sent.now.floor sent.now.groups it multicast.new) }
     ensures unchanged { IfNone result (multicast.new ≡ multicast.old) }
 {
     if sent.groups.is_empty() || sent.groups.len() > GREATEST_AT_ONCE {
         return None;
     }
-    let Ok(jobs) = room_for_one(alloc, out) else {
+    let Ok(()) = room_for_one(out, jobs) else {
         return None;
     };
-    let request = multicast.pass(sent.id, sent.floor, sent.groups)?;
-    Some((jobs, request))
+    multicast.pass(sent.id, sent.floor, sent.groups)
 }
 
-/// Takes the room for one request more that is out, and for its job. The only error is want of memory.
+/// Takes the room for one request more that is out, and for its job alone. The only error is want of memory.
 #[inline]
-fn room_for_one(alloc: Global, out: &mut Vec<Delivered>) -> Result<Vec<Job>, AllocError>
+fn room_for_one(out: &mut Vec<Delivered>, jobs: &mut Vec<Job>) -> Result<(), AllocError>
     ensures out { out.new.items ≡ out.old.items }
     ensures room { OnOk result (length out.new.items + 1 ≤ vec_capacity out.new) }
-    ensures no_jobs { IfOk result (λ jobs. (jobs.items ≡ []) × (1 ≤ vec_capacity jobs)) }
+    ensures no_jobs { OnOk result ((jobs.new.items ≡ []) × (1 ≤ vec_capacity jobs.new)) }
 {
+    jobs.clear();
     out.reserve(1)?;
-    Vec::with_capacity(alloc, 1)
+    jobs.reserve(1)
 }

@@ -1,10 +1,11 @@
 //! What came of a layer, sealed.
 
-ghost use Rattle.std.specs.Prelude.{◌≡◌};
+ghost use Rattle.std.specs.Prelude.{◌≡◌, []};
 ghost use Rattle.serial_store.specs.Rans.{EndsIn};
 
 use crate::law::{Serial, Tabled};
 use history::{Naming, Part};
+use layer_planner::Job;
 use layer_results::Done;
 use std::marker::Model;
 
@@ -15,10 +16,13 @@ pub struct Ran<T: Tabled, J: Naming> {
     pub(crate) number: u64,
     pub(crate) done: Done,
     pub(crate) runs: Part<Serial<T>, J>,
+    // The layer's list of jobs, emptied, where it was of one request.
+    pub(crate) jobs: Vec<Job>,
 }
 
 impl<T: Tabled, J: Naming> Model for Ran<T, J> {
     ghost use Rattle.std.specs.Coded.{codes};
+    ghost use Rattle.std.specs.Prelude.{◌≡◌, []};
     ghost use Rattle.resp.specs.contracts.reply.Reply as reply;
     ghost use Rattle.serial_store.specs.Rans.{RanView, EndsIn};
 
@@ -28,7 +32,7 @@ impl<T: Tabled, J: Naming> Model for Ran<T, J> {
 
     ghost view = { λ r. record { done = r.done; number = r.number; runs = r.runs } };
 
-    ghost invariant = { λ r. EndsIn (record { done = r.done; number = r.number; runs = r.runs }) };
+    ghost invariant = { λ r. EndsIn (record { done = r.done; number = r.number; runs = r.runs }) × (r.jobs.items ≡ []) };
 }
 
 impl<T: Tabled, J: Naming> Ran<T, J> {
@@ -53,17 +57,19 @@ impl<T: Tabled, J: Naming> Ran<T, J> {
         self.runs.again()
     }
 
-    /// What came of the layer, and the part that ends with it.
-    pub fn into_parts(self) -> (Done, Part<Serial<T>, J>)
+    /// What came of the layer, the part that ends with it, and an empty list of jobs: that of a layer of one request, to be used again.
+    pub fn into_parts(self) -> (Done, Part<Serial<T>, J>, Vec<Job>)
         ensures done { result.0 ≡ self.done }
         ensures runs { result.1 ≡ self.runs }
+        ensures jobs { result.2.items ≡ [] }
     {
         let Ran {
             number: _number,
             done,
             runs,
+            jobs,
         } = self;
-        (done, runs)
+        (done, runs, jobs)
     }
 
     /// It does nothing: its contract says that what came of the layer is the last in the part, behind as many as its number says.

@@ -18,7 +18,7 @@ use groups::SkipId;
 use hashed_texts::TextHasher;
 use history::{Naming, Part, Writer};
 use layer_planner::Layer;
-use layer_results::Done;
+use layer_results::{Done, DoneRow};
 use placement::Table;
 use shard_exec::Store;
 use shard_workers::{Gate, Workers};
@@ -75,7 +75,7 @@ impl<T: Tabled, J: Naming> SerialStore<T, J> {
 
     /// Runs the layer of this number by these workers, where so many were run before it, but for the requests and the members that
     /// `skip` names, which count as starved. Its requests address the groups of the store's table. The gate is told of each request that
-    /// is run.
+    /// is run. What comes of a layer of one request lies in this room, which is emptied first.
     ///
     /// `Unrun` says why it is not run: its turn has not come; or the first that applies of Failed, Stale and Memory. All but Failed hand
     /// it back with nothing changed; after Failed no layer is run any more.
@@ -83,6 +83,7 @@ impl<T: Tabled, J: Naming> SerialStore<T, J> {
         &mut self,
         number: u64,
         layer: Layer,
+        room: &mut Vec<DoneRow>,
         skip: &[SkipId],
         workers: &W,
         gate: &(dyn Gate + Sync),
@@ -90,20 +91,30 @@ impl<T: Tabled, J: Naming> SerialStore<T, J> {
         requires { AddressTheirGroups T.table layer }
         ensures run { IfOk result (λ ran. HasRun self.old number skip.now layer ran.done self.new) }
         ensures all { IfOk result (λ ran. (ran.runs ≡ self.new.runs) × (ran.number ≡ number)) }
+        ensures room { OnOk result (room.new.items ≡ []) }
         ensures unrun { IfErr result (λ unrun. IsUnrun (W.may_refuse workers.now) self.old number layer unrun self.new) }
     {
         if number != self.count || number == u64::MAX {
             return Err(Unrun::OutOfTurn(layer));
         }
         let _ = self.store.table();
-        match run_over(self.alloc, &mut self.store, layer, skip, workers, gate) {
-            Ok(done) => {
+        match run_over(
+            self.alloc,
+            &mut self.store,
+            layer,
+            room,
+            skip,
+            workers,
+            gate,
+        ) {
+            Ok((done, jobs)) => {
                 self.runs.write::<&Done, Lent>(&done);
                 self.count = number + 1;
                 Ok(Ran {
                     number,
                     done,
                     runs: self.runs.part(),
+                    jobs,
                 })
             }
             Err(fault) => Err(Unrun::Refused(fault)),

@@ -33,7 +33,7 @@ use Rattle.shared_cluster.specs.contracts.shared.Shared as Shared
 
 pub shared_syncs : (T L : RattleType) (t : tabled.Ghosts T.Denot) (s : server.Ghosts L.Denot) (l : ledger.Ghosts L.Denot)
     → IsSend Front.the_row → StoreSends → IsSync (Shared.the_row T L t s l)
-shared_syncs T L t s l f b = shared_sync T L t s l (cluster_send T L t s l f) (λ J n. serial_store_send T J t n b)
+shared_syncs T L t s l f b = shared_sync T L t s l (cluster_send T L t s l f b.1) (λ J n. serial_store_send T J t n b)
 
 stream_send : IsSend (Arc.the_row TcpStream.the_row Heap.the_row ghosts)
 stream_send = search (sendable, crosses) depth 40 fits 3000

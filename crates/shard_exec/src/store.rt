@@ -190,7 +190,8 @@ impl Store {
         }
     }
 
-    /// Runs a layer of one request as `run_layer` does, on the caller's thread, and tells what became of it without a list.
+    /// Runs a layer of one request as `run_layer` does, on the caller's thread, and tells what became of it without a list. The layer's
+    /// list of jobs comes back beside it, emptied.
     // Inlined, since most layers are of one request.
     #[inline(always)]
     pub fn run_one(
@@ -199,10 +200,11 @@ impl Store {
         layer: Layer,
         skip: &[SkipId],
         gate: &(dyn Gate + Sync),
-    ) -> Result<Ended, ExecFault>
+    ) -> Result<(Ended, Vec<Job>), ExecFault>
         requires groups { AddressTheirGroups self.old.table layer }
         requires lone { length layer ≡ 1 }
-        ensures done { IfOk result (λ ended. HasRunLayer self.old skip.now layer (ended ∷ []) self.new) }
+        ensures done { IfOk result (λ it. HasRunLayer self.old skip.now layer (it.0 ∷ []) self.new) }
+        ensures emptied { IfOk result (λ it. it.1.items ≡ []) }
         ensures fault { IfErr result (λ fault. HasFailed false self.old layer fault self.new) }
     {
         match admit(self.failed, self.lasts.as_slice(), layer) {
@@ -233,7 +235,7 @@ impl Store {
             return Err(layer);
         };
         match self.run_lone(alloc, layer, skip, gate) {
-            Ok(ended) => {
+            Ok((ended, _jobs)) => {
                 done.push_reserved(ended);
                 Ok(done)
             }
@@ -241,7 +243,8 @@ impl Store {
         }
     }
 
-    /// Runs a layer of one request, which was admitted. It is handed back, with nothing changed, where there is no memory.
+    /// Runs a layer of one request, which was admitted, and gives its list of jobs back, emptied. The layer is handed back, with nothing
+    /// changed, where there is no memory.
     // Inlined, since most layers are of one request.
     #[inline(always)]
     fn run_lone(
@@ -250,22 +253,24 @@ impl Store {
         layer: Layer,
         skip: &[SkipId],
         gate: &(dyn Gate + Sync),
-    ) -> Result<Ended, Layer>
+    ) -> Result<(Ended, Vec<Job>), Layer>
         requires lone { length layer ≡ 1 }
         requires groups { AddressTheirGroups self.old.table layer }
         requires lives { self.old.failed ≡ false }
         requires fresh { AreFresh self.old.lasts layer }
-        ensures done { IfOk result (λ ended. HasRunLayer self.old skip.now layer (ended ∷ []) self.new) }
+        ensures done { IfOk result (λ it. HasRunLayer self.old skip.now layer (it.0 ∷ []) self.new) }
+        ensures emptied { IfOk result (λ it. it.1.items ≡ []) }
         ensures back { IfErr result (λ back. back ≡ layer) }
         ensures unchanged { OnErr result (self.new ≡ self.old) }
     {
         let Ok(span) = reserve_alone(alloc, &layer.jobs()[0]) else {
             return Err(layer);
         };
-        let Some(job) = layer.into_jobs().pop() else {
+        let mut jobs = layer.into_jobs();
+        let Some(job) = jobs.pop() else {
             unreachable!()
         };
-        Ok(run_alone(
+        let ended = run_alone(
             alloc,
             &self.table,
             self.hasher,
@@ -275,7 +280,8 @@ impl Store {
             skip,
             gate,
             span,
-        ))
+        );
+        Ok((ended, jobs))
     }
 }
 

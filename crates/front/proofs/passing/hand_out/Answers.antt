@@ -41,10 +41,11 @@ unreachable-requires-in_default-gather c =
     let start = c.requires.waits in let d = c.args.request in let items = c.args.asked.now.items in
     let one = one_is_out start.2 start.3 d.id items c.pop.new.self.items c.in-Some.asked start.5 c.in-Some.ensures.items in
     let job = one_job start.0 start.1 start.2 start.3 d c.in-Some.asked items one start.4 start.5 in
-    let jobs = one_more c.push_reserved.new.self.items c.args.jobs.items c.job_of.result (its_job d c.in-Some.asked)
+    let jobs = ap (λ v. v.items) c.replace.ensures.value
+    ∙ one_more c.push_reserved.new.self.items c.args.jobs.now.items c.job_of.result (its_job d c.in-Some.asked)
     c.push_reserved.ensures.items c.requires.no_jobs.0 c.job_of.ensures in
     let are = subst (λ js. AreJobs start.1.asked (d ∷ []) js) (sym jobs) job.1 in
-    let may = jobs_may_stand start.0 start.1 (d ∷ []) start.2 start.4 c.push_reserved.new.self.items are in
+    let may = jobs_may_stand start.0 start.1 (d ∷ []) start.2 start.4 c.replace.result.items are in
     let k = subst IsSome c.in_default-gather.is (c.gather.ensures.just_where.1 may) in
     cc
 
@@ -53,6 +54,7 @@ returns-clause-taken c = λ t w r r' is takes.
     let d = c.args.request in let items = c.args.asked.now.items in
     let one = one_is_out r r' d.id items c.pop.new.self.items c.in-Some.asked takes c.in-Some.ensures.items in
     let job = one_job t w r r' d c.in-Some.asked items one is takes in
-    let jobs = one_more c.push_reserved.new.self.items c.args.jobs.items c.job_of.result (its_job d c.in-Some.asked)
+    let jobs = ap (λ v. v.items) c.replace.ensures.value
+    ∙ one_more c.push_reserved.new.self.items c.args.jobs.now.items c.job_of.result (its_job d c.in-Some.asked)
     c.push_reserved.ensures.items c.requires.no_jobs.0 c.job_of.ensures in
     (job.0, subst (λ js. AreJobs w.asked (d ∷ []) js) (sym (c.in-Some-gather.ensures.gathered ∙ jobs)) job.1)

@@ -105,11 +105,13 @@ invariant_of-self-2 g c =
     let wrote = c.write_all_behind.ensures.written
     ∙ run_finished in'.told c.of-came.result.value done c.in-Some-finish_only.conn c.of-came.ensures in
     let more = ran_more g.T.Tabled.table (h g at) c.self.invariant.0 (v g at) (back g at) in (
-      subst (λ l. IsHistory g.T.Tabled.table
+      subst (λ f. IsHistory g.T.Tabled.table
+          (history f in'.max_steps c.write_all_behind.new.self c.runs-runs.result c.push_collected.new.trace)) (sym c.keep_jobs.ensures)
+          (subst (λ l. IsHistory g.T.Tabled.table
           (history c.finish_only.new.front in'.max_steps l c.runs-runs.result c.push_collected.new.trace)) (sym wrote)
           (history_finished g.T.Tabled.table (h g at) c.self.invariant.0 (v g at) (back g at) c.in-Some-finish_only.conn
           c.finish_only.new.front (does g place at) in'.max_steps c.push_run.new.trace refl (run g at) (left g at)
-          c.push_collected.new.trace (pushed g place at)),
+          c.push_collected.new.trace (pushed g place at))),
       cuts_more (all_executed in'.ran) (executed_in done) (all_executed c.runs-runs.result) in'.executed c.executed_in.result _
           c.self.invariant.1 (c.executed_in.ensures ∙ ap (λ l. as_word (executed_in l)) c.rows.ensures)
           c.saturating_add-self-inside.ensures (ap all_executed more ∙ executed_more in'.ran done),
@@ -128,11 +130,13 @@ returns-clause-finished g c =
     let is = does g place at in
     let replied = c.reply_of.ensures is.row (c.into_parts-done.ensures.done ∙ sym c.done-done.ensures ∙ is.only) in
     let seen = c.args.behind.now in
-    let new = history c.finish_only.new.front in'.max_steps c.write_all_behind.new.self c.runs-runs.result c.push_collected.new.trace in
+    let new = history c.keep_jobs.new.self in'.max_steps c.write_all_behind.new.self c.runs-runs.result c.push_collected.new.trace in
     subst (λ d. HasFinished c.args.self.now d seen c.reply_of.result new) done
     (subst (λ o. HasFinished o c.done-done.result.now seen c.reply_of.result new) c.self.view_is
+    (subst (λ f. HasFinished (h g at) c.done-done.result.now seen c.reply_of.result
+    (history f in'.max_steps c.write_all_behind.new.self c.runs-runs.result c.push_collected.new.trace)) (sym c.keep_jobs.ensures)
     (subst (λ l. HasFinished (h g at) c.done-done.result.now seen c.reply_of.result
     (history c.finish_only.new.front in'.max_steps l c.runs-runs.result c.push_collected.new.trace)) (sym all)
     (has_finished g.T.Tabled.table (h g at) c.self.invariant.0 (v g at) (back g at) c.in-Some-finish_only.conn c.finish_only.new.front is
     in'.max_steps c.push_run.new.trace refl (run g at) (left g at) c.push_collected.new.trace (pushed g place at) seen
-    c.reply_of.result replied (behind_both seen in'.told (Run (names_of c.done-done.result.now)) Settle c.write_all_behind.ensures.before))))
+    c.reply_of.result replied (behind_both seen in'.told (Run (names_of c.done-done.result.now)) Settle c.write_all_behind.ensures.before)))))
