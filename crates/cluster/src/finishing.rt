@@ -19,6 +19,7 @@ use front::Front;
 use groups::ConnId;
 use history::Part;
 use layer_results::{Done, DoneRow};
+use packing::PackedRequest;
 use resp::Reply;
 use serial_store::Tabled;
 use std::snapshot::Snapshot;
@@ -71,8 +72,9 @@ impl<T: Tabled, L: Server> History<T, L> {
         self.starved = self.starved.saturating_add(starved_in(done));
         self.ran = runs;
         let (done, _runs, jobs) = ran.ran.into_parts();
-        self.front.keep_jobs(jobs);
-        Ok(reply_of(done, &mut self.rows))
+        let (reply, words) = reply_of(done, &mut self.rows);
+        self.front.keep_room(jobs, words);
+        Ok(reply)
     }
 
     /// Whether this came of the layer that is out, by its number, and steps are left for a Run, a Settle and a Collect.
@@ -115,10 +117,10 @@ pub(super) fn only_row(rows: &[DoneRow]) -> Option<&DoneRow>
     rows.first()
 }
 
-/// The reply of a layer's one request, whose row lay in what is room for one then.
-fn reply_of(done: Done, room: &mut Vec<DoneRow>) -> Reply
+/// The reply of a layer's one request, and its words; its row lay in what is room for one then.
+fn reply_of(done: Done, room: &mut Vec<DoneRow>) -> (Reply, PackedRequest)
     requires { (row : DoneRow) × (reply : Reply) × (done ≡ row ∷ []) × (row.reply ≡ Some reply) }
-    ensures { (row : DoneRow) → done ≡ row ∷ [] → row.reply ≡ Some result }
+    ensures { (row : DoneRow) → done ≡ row ∷ [] → row.reply ≡ Some result.0 }
 {
     let mut rows = done.into_rows();
     let Some(row) = rows.pop() else {
@@ -128,11 +130,11 @@ fn reply_of(done: Done, room: &mut Vec<DoneRow>) -> Reply
     let DoneRow {
         id: _id,
         stamp: _stamp,
-        words: _words,
+        words,
         reply,
     } = row;
     match reply {
-        Some(reply) => reply,
+        Some(reply) => (reply, words),
         None => unreachable!(),
     }
 }

@@ -28,6 +28,8 @@ pub struct Front {
     pub(super) asked: Vec<Worded>,
     // Room for its job.
     pub(super) jobs: Vec<Job>,
+    // Room for its words.
+    pub(super) buffer: Vec<u8>,
     pub(super) steps: u64,
     pub(super) layers: u64,
 }
@@ -75,6 +77,7 @@ impl Front {
             out: Vec::new(alloc),
             asked: Vec::new(alloc),
             jobs: Vec::new(alloc),
+            buffer: Vec::new(alloc),
             steps: 0,
             layers: 0,
         })

@@ -27,6 +27,7 @@ use super::requests::unsent;
 use groups::{ConnId, RequestId};
 use layer_planner::{Job, Layer};
 use multicast::Multicast;
+use packing::PackedRequest;
 use placement::Table;
 use resp::Request;
 use router::{Router, Submission, SubmitFault};
@@ -63,6 +64,7 @@ impl Front {
             &self.table,
             &mut self.router,
             &mut self.multicast,
+            &mut self.buffer,
             &mut self.asked,
             conn,
             words,
@@ -94,12 +96,18 @@ impl Front {
         Ok((sent.id, Some(layer)))
     }
 
-    /// Keeps a list of jobs that is no longer needed as room for the job of a request that passes, where it is small.
-    pub fn keep_jobs(&mut self, jobs: Vec<Job>)
+    /// Keeps the list of jobs and the words of a request that passed, which are no longer needed, as room for the next one, where they
+    /// are small.
+    #[inline(always)]
+    pub fn keep_room(&mut self, jobs: Vec<Job>, words: PackedRequest)
         ensures { self.new ≡ self.old }
     {
         if jobs.capacity() <= GREATEST_KEPT {
             self.jobs = jobs;
+        }
+        let buffer = words.into_buffer();
+        if buffer.capacity() <= GREATEST_BUFFER {
+            self.buffer = buffer;
         }
     }
 }
@@ -111,6 +119,7 @@ fn submit_and_take(
     table: &Table,
     router: &mut Router,
     multicast: &mut Multicast,
+    buffer: &mut Vec<u8>,
     asked: &mut Vec<Worded>,
     conn: ConnId,
     words: Request,
@@ -131,7 +140,7 @@ fn submit_and_take(
     let Ok(()) = asked.reserve(1) else {
         return Err(unsent(router, conn));
     };
-    router.submit_and_take(table, conn, words, asked)
+    router.submit_and_take(table, conn, words, buffer, asked)
 }
 
 /// What was taken of a request waits again, and a Start goes to each of its groups.
@@ -178,6 +187,9 @@ fn hand_out(
 
 /// So long is a list of jobs at most that is kept.
 const GREATEST_KEPT: usize = 16;
+
+/// So many bytes has a buffer of words at most that is kept.
+const GREATEST_BUFFER: usize = 4096;
 
 /// So many groups may a request address that is delivered at once: its packets are their square.
 const GREATEST_AT_ONCE: usize = 8;

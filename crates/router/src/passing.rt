@@ -34,7 +34,8 @@ use worded::{Worded, WordedFault};
 
 impl Router {
     /// A connection submits a request of these words, as by `submit`. What it asks is taken, as by `take`, where it waits, and put
-    /// into `taken`, in which there is room.
+    /// into `taken`, in which there is room. The copy of the words lies in the buffer, where one is made: another, without memory,
+    /// takes its place.
     ///
     /// The errors are those of `submit`, and change nothing.
     pub fn submit_and_take(
@@ -42,6 +43,7 @@ impl Router {
         table: &Table,
         conn: ConnId,
         words: Request,
+        buffer: &mut Vec<u8>,
         taken: &mut Vec<Worded>,
     ) -> Result<Submission, SubmitFault>
         requires few { (v : Connection) → connection self.old conn.0 ≡ Some v → v.seq < GREATEST_NUMBER }
@@ -59,7 +61,8 @@ impl Router {
         if is_ping(&words) {
             return Ok(self.answer_ping(conn, idle));
         }
-        let asked = match Worded::read(self.alloc, words) {
+        let buffer = mem::replace(buffer, Vec::new(self.alloc));
+        let asked = match Worded::read_into(buffer, words) {
             Ok(asked) => asked,
             Err(fault) => return self.refuse(conn, idle, fault),
         };

@@ -84,6 +84,31 @@ pub fn run_in_row(
     if let Some(group) = groups.alone() {
         return run_in_place(alloc, row, group, placed, skip, gate);
     }
+    run_moved(alloc, table, hasher, row, placed, span, skip, gate)
+}
+
+/// Runs a request over its shards moved out, and back.
+// A call, since most requests are of one group.
+#[inline(never)]
+fn run_moved(
+    alloc: Global,
+    table: &Table,
+    hasher: TextHasher,
+    row: &mut Vec<Shard>,
+    placed: PlacedJob,
+    span: Vec<(GroupId, Shard)>,
+    skip: &[SkipId],
+    gate: &(dyn Gate + Sync),
+) -> JobRan
+    requires is_table { IsTable table.now }
+    requires shards { length row.old.items ≡ table.now.shards }
+    requires own { HasOwnKeys table.now row.old.items }
+    requires groups { placed.job.groups ≡ task_groups table.now placed.job.asked.batch }
+    requires room { FitsAlone placed.job span }
+    ensures ran { HasRunInRow table.now skip.now placed row.old.items result row.new.items }
+    ensures shards { length row.new.items ≡ length row.old.items }
+{
+    let groups = placed.groups();
     let shards = take_shards(alloc, hasher, row, groups, span);
     let (ran, shards) = placed.run_over(alloc, table, shards, skip, gate);
     put_back(row, shards);

@@ -6,7 +6,7 @@ ghost use Rattle.shared_cluster.specs.Asks.{HasSubmitted, IsCollected, IsReplied
 ghost use Rattle.shared_cluster.specs.Hands.{HasTurned, HoldsRun, IsUncollected, LooksInVain, HasBegun, Answers, Gives};
 ghost use Rattle.shared_cluster.specs.declared.hand.Hand.{Hand};
 
-use crate::hand::{Hand, HandOf};
+use crate::hand::{Hand, HandOf, Run};
 use crate::held::{AskFault, Held, Next};
 use crate::long_work::takes_long;
 use crate::shared::{Shared, Turn};
@@ -78,6 +78,7 @@ impl<T: Tabled, L: Server> Shared<T, L> {
         self.turnstile.enter(rt, seat.conn());
         match self.submit_and_begin(rt, seat, words) {
             Ok(Begun::Replied(reply)) => Ok(reply),
+            Ok(Begun::Waits(Hand::Taken(taken))) => self.run_until_replied(rt, seat, taken),
             Ok(Begun::Waits(hand)) => self.turn_until_replied(rt, seat, hand),
             Err(fault) => Err(fault),
         }
@@ -176,6 +177,43 @@ impl<T: Tabled, L: Server> Shared<T, L> {
             held = self.front.lock(rt);
         }
         unreachable!()
+    }
+
+    /// Runs this layer, settles what came of it, and collects what came of the seat's last request, where it is there then. Else turns
+    /// are made until it is.
+    fn run_until_replied<R: Wait + Clock>(
+        &self,
+        rt: &R,
+        seat: &mut Seat<T, L>,
+        taken: Taken<T, L>,
+    ) -> Result<SealedReply, AskFault>
+        ensures replied { IfOk result (λ r. IsCollected T.table seat.old (content r.reply) seat.new) }
+        ensures refused { IfErr result (IsCollectFault seat.old) }
+        ensures unchanged { OnErr result (seat.new ≡ seat.old) }
+    {
+        if takes_long(taken.layer()) {
+            return self.turn_until_replied(rt, seat, Hand::Taken(taken));
+        }
+        let ran = match self.run_in_store(rt, taken, &InTurn(NonZeroUsize::MIN), &OpenGate) {
+            Run::Handed(ran) => ran,
+            Run::Starved(taken) => {
+                return self.turn_until_replied(rt, seat, Hand::Taken(taken));
+            }
+            Run::Refused(why) => {
+                let fault = self.front.lock(rt).stop(why);
+                self.wake_all();
+                return Err(fault);
+            }
+        };
+        match self.settle_then_collect(rt, seat, ran) {
+            Ok(Settled::Gives(Some(reply))) => Ok(reply),
+            Ok(Settled::Gives(None)) => self.turn_until_replied(rt, seat, Hand::Free),
+            Ok(Settled::Starved(ran)) => self.turn_until_replied(rt, seat, Hand::HasRun(ran)),
+            Err(fault) => {
+                self.wake_all();
+                Err(fault)
+            }
+        }
     }
 
     /// Makes turns until what came of the seat's last request is there. It is collected by a hand that is free, and looked for at

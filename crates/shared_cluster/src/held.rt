@@ -211,6 +211,8 @@ impl<T: Tabled, L: Server> Held<T, L> {
 
     /// Gives the words of a request back that may be submitted, with whether an open list is to have them; or says why it isn't
     /// submitted.
+    // Inlined, so that the words are moved once.
+    #[inline(always)]
     fn admit(&mut self, seat: &Seat<T, L>, words: Request) -> Result<(Request, bool), FaultKind>
         ensures words { IfOk result (λ admitted. admitted.0 ≡ words) }
         ensures listed { IfOk result (λ admitted. admitted.1 ≡ is_listed self.old.cluster.history seat.now.conn words) }

@@ -486,7 +486,7 @@ impl<T: Tabled, L: Server> Shared<T, L> {
     }
 
     /// Runs the layer, under the store's lock alone. Where there is no memory for it, what is kept back is let go.
-    fn run_in_store<W: Workers, R: Wait>(
+    pub(crate) fn run_in_store<W: Workers, R: Wait>(
         &self,
         rt: &R,
         layer: Taken<T, L>,

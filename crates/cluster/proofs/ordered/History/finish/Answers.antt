@@ -106,7 +106,7 @@ invariant_of-self-2 g c =
     ∙ run_finished in'.told c.of-came.result.value done c.in-Some-finish_only.conn c.of-came.ensures in
     let more = ran_more g.T.Tabled.table (h g at) c.self.invariant.0 (v g at) (back g at) in (
       subst (λ f. IsHistory g.T.Tabled.table
-          (history f in'.max_steps c.write_all_behind.new.self c.runs-runs.result c.push_collected.new.trace)) (sym c.keep_jobs.ensures)
+          (history f in'.max_steps c.write_all_behind.new.self c.runs-runs.result c.push_collected.new.trace)) (sym c.keep_room.ensures)
           (subst (λ l. IsHistory g.T.Tabled.table
           (history c.finish_only.new.front in'.max_steps l c.runs-runs.result c.push_collected.new.trace)) (sym wrote)
           (history_finished g.T.Tabled.table (h g at) c.self.invariant.0 (v g at) (back g at) c.in-Some-finish_only.conn
@@ -128,15 +128,15 @@ returns-clause-finished g c =
     ∙ run_finished in'.told c.of-came.result.value c.done-done.result.now c.in-Some-finish_only.conn c.of-came.ensures in
     let done = c.done-done.ensures ∙ ap (λ (r : RanView). r.done) c.ran.view_is in
     let is = does g place at in
-    let replied = c.reply_of.ensures is.row (c.into_parts-done.ensures.done ∙ sym c.done-done.ensures ∙ is.only) in
+    let replied = c.reply_of-reply.ensures is.row (c.into_parts-done.ensures.done ∙ sym c.done-done.ensures ∙ is.only) in
     let seen = c.args.behind.now in
-    let new = history c.keep_jobs.new.self in'.max_steps c.write_all_behind.new.self c.runs-runs.result c.push_collected.new.trace in
-    subst (λ d. HasFinished c.args.self.now d seen c.reply_of.result new) done
-    (subst (λ o. HasFinished o c.done-done.result.now seen c.reply_of.result new) c.self.view_is
-    (subst (λ f. HasFinished (h g at) c.done-done.result.now seen c.reply_of.result
-    (history f in'.max_steps c.write_all_behind.new.self c.runs-runs.result c.push_collected.new.trace)) (sym c.keep_jobs.ensures)
-    (subst (λ l. HasFinished (h g at) c.done-done.result.now seen c.reply_of.result
+    let new = history c.keep_room.new.self in'.max_steps c.write_all_behind.new.self c.runs-runs.result c.push_collected.new.trace in
+    subst (λ d. HasFinished c.args.self.now d seen c.reply_of-reply.result.0 new) done
+    (subst (λ o. HasFinished o c.done-done.result.now seen c.reply_of-reply.result.0 new) c.self.view_is
+    (subst (λ f. HasFinished (h g at) c.done-done.result.now seen c.reply_of-reply.result.0
+    (history f in'.max_steps c.write_all_behind.new.self c.runs-runs.result c.push_collected.new.trace)) (sym c.keep_room.ensures)
+    (subst (λ l. HasFinished (h g at) c.done-done.result.now seen c.reply_of-reply.result.0
     (history c.finish_only.new.front in'.max_steps l c.runs-runs.result c.push_collected.new.trace)) (sym all)
     (has_finished g.T.Tabled.table (h g at) c.self.invariant.0 (v g at) (back g at) c.in-Some-finish_only.conn c.finish_only.new.front is
     in'.max_steps c.push_run.new.trace refl (run g at) (left g at) c.push_collected.new.trace (pushed g place at) seen
-    c.reply_of.result replied (behind_both seen in'.told (Run (names_of c.done-done.result.now)) Settle c.write_all_behind.ensures.before)))))
+    c.reply_of-reply.result.0 replied (behind_both seen in'.told (Run (names_of c.done-done.result.now)) Settle c.write_all_behind.ensures.before)))))

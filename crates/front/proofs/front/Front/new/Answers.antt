@@ -2,10 +2,10 @@ use Rattle.std.proofs.Common.{[], refl, ap, ◌∙◌}
 use Rattle.front.proofs.Opening.{IsOpening, opening_shown}
 use Rattle.front.specs.Fronts.{FrontView, roomless}
 use Rattle.world.specs.Steps.{opening}
-use Rattle.front.proofs.front.Front.new.Goals.{After-new-5}
+use Rattle.front.proofs.front.Front.new.Goals.{After-new-6}
 use Rattle.front.proofs.front.Front.new.Goals as goal
 
-abbrev new_front : After-new-5 → FrontView
+abbrev new_front : After-new-6 → FrontView
 new_front c = record {
   table = c.args.table;
   router = c.new-2.result;
@@ -16,7 +16,7 @@ new_front c = record {
 }
 
 -- every part is as it is when nothing has happened
-is_opening : (c : After-new-5) → IsOpening (new_front c)
+is_opening : (c : After-new-6) → IsOpening (new_front c)
 is_opening c = record {
   opened = c.new-2.ensures.opened;
   kept = c.new-2.ensures.none;
