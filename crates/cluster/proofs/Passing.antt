@@ -108,7 +108,8 @@ arrive t (suc n) h f is few (mid, makes, rest) =
     let made = was_made t h is (Deliver 0) tt Made mid makes h.max_steps trace left refl pushed in
     let others = arrive t n one f is_one (omega (arith, few, length-append h.steps (Deliver 0 ∷ []))) rest in
     let same : after one n f ≡ after h (suc n) f =
-    λ k. history f h.max_steps (append_snoc h.steps (Deliver 0) (arrivals n) k) h.ran (longer-twice h.trace (Deliver 0 ∷ []) (arrivals n) k) in
+    λ k. history f h.max_steps (append_snoc h.steps (Deliver 0) (arrivals n) k) h.ran
+    (longer-twice h.trace (Deliver 0 ∷ []) (arrivals n) k) in
     record {
       is = subst (IsHistory t) same others.is;
       arrives = (one, record { place = 0; made = made; picked = refl }, subst (Arrives n one) same others.arrives);

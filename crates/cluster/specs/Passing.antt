@@ -52,7 +52,8 @@ pub record HasPassed (old : HistoryView) (conn : ConnId) (words : List (List ℕ
 
 -- The seat's request of these words was submitted, behind all that it had seen, and it has seen that step. Then its packets came
 -- and it was taken, where a layer is handed out.
-pub record Passes (old : HistoryView) (s : SeatView) (words : List (List ℕ)) (taken : Option TakenView) (new : HistoryView) (after : SeatView)
+pub record Passes (old : HistoryView) (s : SeatView) (words : List (List ℕ)) (taken : Option TakenView) (new : HistoryView)
+    (after : SeatView)
     : Type 0 where
   pub id : RequestId
   pub begun : HistoryView

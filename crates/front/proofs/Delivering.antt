@@ -111,7 +111,8 @@ module _ (t : Layout) (v : MulticastView) (w : World) (shows : ShowsMulticast t 
   )
 
   -- where a packet is repeated in the system it is in the world
-  pub shows_repeat : (new : MulticastView) (k : ℕ) → multicast.Repeats v k new → (w' : World) × Repeats w k Made w' × ShowsMulticast t new w'
+  pub shows_repeat : (new : MulticastView) (k : ℕ) → multicast.Repeats v k new
+      → (w' : World) × Repeats w k Made w' × ShowsMulticast t new w'
   shows_repeat new k d = (
     record w { packets = w.packets ++ d.packet ∷ [] },
     record {

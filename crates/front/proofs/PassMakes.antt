@@ -133,7 +133,8 @@ module _ (old : FrontView) (is : IsFront old) (conn : ConnId) (words : List (Lis
     come = record begun { multicast = passes.come; steps = begun.steps + packets_of sent.groups }
 
     come_after : Arrives (packets_of sent.groups) begun come × IsFront come
-    come_after = come_one_by_one (packets_of sent.groups) begun passes.come come.steps refl (once_begun passes.begun passes.begins) passes.arrives
+    come_after = come_one_by_one (packets_of sent.groups) begun passes.come come.steps refl
+        (once_begun passes.begun passes.begins) passes.arrives
 
     once_come : IsFront come
     once_come = come_after.1

@@ -131,7 +131,8 @@ pub names_step : (rows : List DoneRow) (i : ℕ) (row : DoneRow) → i < length 
 names_step rows i row within there =
     let one : take (i + 1) rows ≡ take i rows ++ row ∷ [] =
     take_more rows i row within ∙ ap (λ r. take i rows ++ r ∷ []) (sym there) in
-    ap names_of one ∙ flat_map-append row_names (take i rows) (row ∷ []) ∙ ap (λ ns. names_of (take i rows) ++ ns) (append-nil (row_names row))
+    ap names_of one ∙ flat_map-append row_names (take i rows) (row ∷ [])
+    ∙ ap (λ ns. names_of (take i rows) ++ ns) (append-nil (row_names row))
 
 pub names_rest : (rows : List DoneRow) (i : ℕ) → length (names_of (take i rows)) ≤ length (names_of rows)
 names_rest rows i =
@@ -213,7 +214,8 @@ head_of (name ∷ words) bytes rest first count coded fit e f g =
     let number : number_at bytes ≡ (suc (length words), flat_map word_code (name ∷ words)) =
     ap number_at whole ∙ number_at-code (suc (length words)) (flat_map word_code (name ∷ words)) fit.count in
     let behind : rest ≡ word_code name ++ flat_map word_code words = f ∙ ap (λ p. p.1) number in
-    let word : word_at rest ≡ (name, flat_map word_code words) = ap word_at behind ∙ word_at-code name (flat_map word_code words) fit.each.0 in
+    let word : word_at rest ≡ (name, flat_map word_code words) = ap word_at behind
+    ∙ word_at-code name (flat_map word_code words) fit.each.0 in
     let same : first ≡ name = g ∙ ap (λ p. p.0) word in
     record { behind = words; whole = ap (λ n. n ∷ words) (sym same); counted = e ∙ ap (λ p. p.0) number }
 
@@ -258,7 +260,8 @@ pub member_count_by_task : (words : List Word) (task : Task) → task_reading wo
 member_count_by_task [] task read = cc
 member_count_by_task (name ∷ words) task read =
     elim (bytes_eq name exec_name)
-    as (λ b. cond b (as_exec (members_in words)) (as_plain (reading (name ∷ words))) ≡ Ok task → cond b (length words) 0 ≡ task_members task) [
+    as (λ b. cond b (as_exec (members_in words)) (as_plain (reading (name ∷ words))) ≡ Ok task
+    → cond b (length words) 0 ≡ task_members task) [
       | true ↦ λ e. sym (exec_members (members_in words) task (length words) e (members_in-length words))
       | false ↦ λ e. sym (plain_members (reading (name ∷ words)) task e)
     ] read

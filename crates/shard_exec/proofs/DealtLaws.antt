@@ -234,7 +234,8 @@ rooms_inside table layer units n long a of (u ∷ us) (m ∷ ms) sub z = (
   rooms_inside table layer units n long a of us ms (λ v i. sub v (inr i)) z.1,
 )
 
-over_numbers : (table : Layout) (skip : List SkipId) (ts : List PlacedJob) (rs : List JobRan) (before after : Span) → HaveRunOver table skip ts before rs after
+over_numbers : (table : Layout) (skip : List SkipId) (ts : List PlacedJob) (rs : List JobRan) (before after : Span)
+    → HaveRunOver table skip ts before rs after
     → numbers after ≡ numbers before
 over_numbers table skip [] [] before after run = ap numbers run
 over_numbers table skip [] (r ∷ rs) before after run = absurd run

@@ -52,7 +52,8 @@ own_row table old new gs own span others g = elim (cases_Bool (has gs g)) [
   | inr away ↦ subst (HasKeysOf table g) (sym (others g away)) (own g)
 ]
 
-own_over : (table : Layout) (skip : List SkipId) (ts : List PlacedJob) (rs : List JobRan) (before after : Span) → SpanHasOwnKeys table before
+own_over : (table : Layout) (skip : List SkipId) (ts : List PlacedJob) (rs : List JobRan) (before after : Span)
+    → SpanHasOwnKeys table before
     → HaveRunOver table skip ts before rs after → SpanHasOwnKeys table after
 own_over table skip [] [] before after own run = subst (SpanHasOwnKeys table) (sym run) own
 own_over table skip [] (r ∷ rs) before after own run = absurd run
@@ -163,7 +164,8 @@ all_apart table skip layer (u ∷ us) slots row rans given left each sub run =
 -- ---- from what the shards had before the layer
 
 -- the units run on what their shards had, since those before them leave these alone
-pub runs_on : (table : Layout) (skip : List SkipId) (sets : List (List ℕ)) (maps row : List Map) (us : List (List ℕ)) (tss : List (List PlacedJob))
+pub runs_on : (table : Layout) (skip : List SkipId) (sets : List (List ℕ)) (maps row : List Map) (us : List (List ℕ))
+    (tss : List (List PlacedJob))
     (rss : List (List JobRan)) (left : List Map) → ((u : List ℕ) → In u us → IsUnit sets u) → AtMostOnce (concat us)
     → ((u : List ℕ) → In u us → (g : ℕ) → has (unit_groups sets u) g ≡ true → map_of_shard row g ≡ map_of_shard maps g)
     → UnitsInRow table skip sets row us tss rss left → UnitsRunOn skip sets maps us tss rss
@@ -217,7 +219,8 @@ module _ (table : Layout) (maps : List Map) (skip : List SkipId) (layer : List J
           others = run.1.others;
         },
         works_ran outs run.0 us tss rss left
-            (own_row table row run.0 gs own_now (own_over table skip ts rs (span_at row gs) (span_at run.0 gs) (own_span table row gs own_now)
+            (own_row table row run.0 gs own_now
+            (own_over table skip ts rs (span_at row gs) (span_at run.0 gs) (own_span table row gs own_now)
             run.1.over) run.1.others)
             (λ v i. each v (inr i)) jobs.1 stand.1 run.2,
       )
@@ -230,7 +233,8 @@ module _ (table : Layout) (maps : List Map) (skip : List SkipId) (layer : List J
   tells_units row (u ∷ us) [] rss left run = absurd run
   tells_units row (u ∷ us) (ts ∷ tss) [] left run = absurd run
   tells_units row (u ∷ us) (ts ∷ tss) (rs ∷ rss) left run = (
-    tells_all table skip ts rs (span_at row (unit_groups (groups_each layer) u)) (span_at run.0 (unit_groups (groups_each layer) u)) run.1.over,
+    tells_all table skip ts rs (span_at row (unit_groups (groups_each layer) u))
+        (span_at run.0 (unit_groups (groups_each layer) u)) run.1.over,
     tells_units run.0 us tss rss left run.2,
   )
 

@@ -199,7 +199,8 @@ HaveRunOn skip [] u [] = Unit {0}
 HaveRunOn skip (t ∷ ts) u (r ∷ rs) = (mid : Map) × HasRunOn skip t u r mid × HaveRunOn skip ts mid rs
 HaveRunOn skip _ u _ = ⊥
 
-pub run_on : (table : Layout) (skip : List SkipId) (ts : List PlacedJob) (rs : List JobRan) (before after : Span) → HaveRunOver table skip ts before rs after
+pub run_on : (table : Layout) (skip : List SkipId) (ts : List PlacedJob) (rs : List JobRan) (before after : Span)
+    → HaveRunOver table skip ts before rs after
     → HaveRunOn skip ts (union before) rs
 run_on table skip [] [] before after run = tt
 run_on table skip [] (r ∷ rs) before after run = absurd run

@@ -140,7 +140,8 @@ tells_of layer (i ∷ is) (t ∷ ts) (r ∷ rs) z w = (
   tells_of layer is ts rs z.1 w.1,
 )
 
-pub tells_all : (table : Layout) (skip : List SkipId) (ts : List PlacedJob) (rs : List JobRan) (before after : Span) → HaveRunOver table skip ts before rs after
+pub tells_all : (table : Layout) (skip : List SkipId) (ts : List PlacedJob) (rs : List JobRan) (before after : Span)
+    → HaveRunOver table skip ts before rs after
     → AllZip Tells ts rs
 tells_all table skip [] [] before after run = tt
 tells_all table skip [] (r ∷ rs) before after run = absurd run

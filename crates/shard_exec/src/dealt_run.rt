@@ -24,9 +24,9 @@ use shard_workers::{Gate, JobRan, Ran, Refused, Workers};
 use shards::Shard;
 use std::alloc::Global;
 
-/// Runs the units of a layer but for what `skip` names, dealt to the workers by this plan, and puts what became of each request in its place. It takes
-/// no memory but the requests' own. With `Refused` the shards that were taken out are lost, and empty ones stand in their
-/// places.
+/// Runs the units of a layer but for what `skip` names, dealt to the workers by this plan, and puts what became of each request in its
+/// place. It takes no memory but the requests' own. With `Refused` the shards that were taken out are lost, and empty ones stand in
+/// their places.
 pub fn run_dealt<'s, W: Workers>(
     alloc: Global,
     table: &Table,

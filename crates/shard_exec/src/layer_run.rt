@@ -24,8 +24,8 @@ use shard_workers::{Gate, JobRan, PlacedJob, Refused, Workers};
 use shards::Shard;
 use std::alloc::Global;
 
-/// Runs the requests of a layer but for what `skip` names, unit by unit, each over the shards of its groups, and tells what became of each. With
-/// `Refused` the shards that were taken out are lost, and empty ones stand in their places.
+/// Runs the requests of a layer but for what `skip` names, unit by unit, each over the shards of its groups, and tells what became of
+/// each. With `Refused` the shards that were taken out are lost, and empty ones stand in their places.
 pub fn run_layer_over<'s, W: Workers>(
     alloc: Global,
     table: &Table,

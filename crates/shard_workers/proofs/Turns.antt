@@ -86,7 +86,8 @@ module _ (table : Layout) (task : Task) (g : ℕ) (before : Map) (is_table : IsT
       ] refl
 
 -- a request that was run on the map of its one shard was run over that
-pub one_over : (table : Layout) (skip : List SkipId) (t : PlacedJob) (r : JobRan) (before after : Span) → IsReadyFor table t before → length before ≡ 1
+pub one_over : (table : Layout) (skip : List SkipId) (t : PlacedJob) (r : JobRan) (before after : Span) → IsReadyFor table t before
+    → length before ≡ 1
     → numbers after ≡ numbers before → HasRunOn skip t (first_map before) r (first_map after) → HasRunOver table skip t before r after
 one_over table skip t r [] after ready one kept run = absurd (omega (arith, one))
 one_over table skip t r (b ∷ c ∷ more) after ready one kept run = absurd (omega (arith, one))

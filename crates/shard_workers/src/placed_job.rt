@@ -48,8 +48,8 @@ impl PlacedJob {
 
     /// Runs the request over a keyspace that covers its batch's keys, unless `skip` names it; those of its members that are
     /// named there are skipped. The batch is used up, and the words are kept. The gate is told only of what is run.
-    // Inlined, so that a request and what came of it are moved fewer times.
-    #[inline(always)]
+    // A call, since its callers have little room for a request's parts.
+    #[inline(never)]
     pub fn run<K: Keyspace>(
         self,
         alloc: Global,

@@ -199,8 +199,8 @@ impl<T: Tabled, L: Server> Shared<T, L> {
         self.front.lock(rt).stand(seat);
     }
 
-    /// Appends the text of the trace, where one is kept of which nothing was handed on, and says whether it is. With `AllocError`, where there is no memory for all of
-    /// it, `out` is as it was.
+    /// Appends the text of the trace, where one is kept of which nothing was handed on, and says whether it is. With `AllocError`,
+    /// where there is no memory for all of it, `out` is as it was.
     pub fn write_trace<R: Wait>(&self, rt: &R, out: &mut Vec<u8>) -> Result<bool, AllocError>
         ensures written { IfOk result (λ kept. IsWritten out.old.items kept out.new.items) }
         ensures unchanged { OnErr result (out.new.items ≡ out.old.items) }

@@ -86,7 +86,8 @@ comes_told (session.Go (Plain command)) old new reply run = run
 comes_told (session.Go (Exec members)) old new reply run = exec_told members old new reply run
 
 -- what a connection asked and was answered is a run in turn of what was answered
-runs_in_turn : (s t : ClientState) (requests : List (List (List ℕ))) (answers : List (Answer ConnectionFault)) → Runs Asks s requests answers t
+runs_in_turn : (s t : ClientState) (requests : List (List (List ℕ))) (answers : List (Answer ConnectionFault))
+    → Runs Asks s requests answers t
     → (t, replies_of answers) ≡ told_in_turn s (told_of requests answers)
 runs_in_turn s t [] [] run = pair _ _ _ _ run refl
 runs_in_turn s t [] (a ∷ answers) run = absurd run

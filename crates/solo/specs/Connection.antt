@@ -106,7 +106,8 @@ limits = record { words = DEFAULT_WORDS; bulk = DEFAULT_BULK; few_words = lit< t
 
 -- The connection was served as `Serves` says, from a session with no open list, and the requests for which there was
 -- memory were answered one after another on the one map, whose last state is t: the others have left no trace.
-pub record ServesInTurn (before after old new : Option (List ℕ)) (s t : Map) (result : Result Served (ServeFault ConnectionFault)) : Type 0 where
+pub record ServesInTurn (before after old new : Option (List ℕ)) (s t : Map)
+    (result : Result Served (ServeFault ConnectionFault)) : Type 0 where
   pub left : Session
   pub connection : Serves Asks limits before after old new (Free, s) (left, t) result
   pub replies : ((left, t), replies_of connection.answers)

@@ -186,7 +186,8 @@ pub owes_step : (t : Layout) (old new : World) (step : Step) (effect : Effect) �
     Owes new
 owes_step t old new Open effect s good owes = subst (λ w. Owes w) (sym s.after) owes
 owes_step t old new (Submit conn words) effect s good owes = subst (λ w. Owes w) (sym s.after)
-    (owes_submitted t (remembered old conn.0 words) conn.0 (answer_to old conn.0 words) (good_remembered t old conn.0 words s.idle good) owes)
+    (owes_submitted t (remembered old conn.0 words) conn.0 (answer_to old conn.0 words)
+    (good_remembered t old conn.0 words s.idle good) owes)
 owes_step t old new (Deliver k) effect s good owes = owes_deliver t old new k effect s good owes
 owes_step t old new Take effect s good owes = owes_take t old new effect s good owes
 owes_step t old new (Run starved) effect s good owes = owes_run old new starved effect s owes

@@ -177,7 +177,8 @@ regroup (inr c) = inr (inr c)
 
 said_steps : (t : Layout) (old new : World) (H : RequestId → Task → Type 0) (K : RequestId → Content → Type 0) (ss : List Step)
     (es : List Effect) → Makes t old ss es new → Said old H K → Said new (WasAsked H old.session ss es) (WasReplied t K old.session ss es)
-said_steps t old new H K [] es made said = subst (λ w. Said w (WasAsked H old.session [] es) (WasReplied t K old.session [] es)) (sym made.1)
+said_steps t old new H K [] es made said = subst (λ w. Said w (WasAsked H old.session [] es) (WasReplied t K old.session [] es))
+    (sym made.1)
     (said_more old H _ K _ (λ i c h. inl h) (λ i r k. inl k) said)
 said_steps t old new H K (s ∷ ss) [] made said = absurd made
 said_steps t old new H K (s ∷ ss) (e ∷ es) made said =

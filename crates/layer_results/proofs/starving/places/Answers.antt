@@ -10,7 +10,8 @@ use Rattle.layer_results.proofs.starving.places.Goals as goal
 pub returns-in-Array : goal.returns-in-Array
 returns-in-Array c =
     let count = member_count c.args.words.now in let replies = c.in-Array.replies.items in
-    let least : c.min.result ≡ min count (length replies) = omega (arith, c.member_count.ensures, c.min.ensures, c.len.ensures, c.in-Array.replies.ok.0) in
+    let least : c.min.result ≡ min count (length replies) = omega
+    (arith, c.member_count.ensures, c.min.ensures, c.len.ensures, c.in-Array.replies.ok.0) in
     ap (λ r. wants_in count (content r)) c.in-Array.is ∙ ap (wants_in count) (content-Array c.in-Array.replies)
     ∙ places_taken count c.min.result replies least
     ∙ ap (λ rs. wants_among 1 (map content (take c.min.result rs))) (sym c.deref.ensures.value)

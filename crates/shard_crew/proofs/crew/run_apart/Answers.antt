@@ -19,10 +19,12 @@ pub returns : goal.returns
 returns g c =
     let each : AllZip (HasRunLoad c.args.table.now c.args.starting.skip.now) c.pop.new.self.items c.join_all-all.result.items =
     zip_then _ _ (HasRunLoad c.args.table.now c.args.starting.skip.now)
-    (λ p h r of ran. subst (λ names. HasRunLoad c.args.table.now names p r) of.2 (subst (λ t. HasRunLoad t h.promise.skip.value.now p r) of.1
+    (λ p h r of ran. subst (λ names. HasRunLoad c.args.table.now names p r) of.2
+    (subst (λ t. HasRunLoad t h.promise.skip.value.now p r) of.1
     (subst (λ q. HasRunLoad h.promise.table.value h.promise.skip.value.now q r) of.0 ran)))
     _ _ _ c.in-Some-start_all.ensures c.join_all-all.ensures.each in
-    let all = zip_push (HasRunLoad c.args.table.now c.args.starting.skip.now) _ _ c.in-Some.last c.run-mine.result each c.run-mine.ensures in
+    let all = zip_push
+    (HasRunLoad c.args.table.now c.args.starting.skip.now) _ _ c.in-Some.last c.run-mine.result each c.run-mine.ensures in
     let whole : c.args.loads.items ≡ c.pop.new.self.items ++ c.in-Some.last ∷ [] = search rules in
     subst (λ l. AllZip (HasRunLoad c.args.table.now c.args.starting.skip.now) l c.push.new.self.items) (sym whole)
     (subst (AllZip (HasRunLoad c.args.table.now c.args.starting.skip.now) _) (sym c.in-Ok.ensures.items) all)

@@ -92,7 +92,8 @@ write_all_behind-requires g c =
     let at = (goal.at.write_all_behind-requires g c).After-is_legal-2 in
     let place = (goal.at.write_all_behind-requires g c).After-push_collected in
     let conn = c.in-Some-finish_only.conn in
-    subst (AreLegal g.T.Tabled.table) (sym (run_finished c.self.inside.told c.of-came.result.value c.done-done.result.now conn c.of-came.ensures))
+    subst (AreLegal g.T.Tabled.table)
+    (sym (run_finished c.self.inside.told c.of-came.result.value c.done-done.result.now conn c.of-came.ensures))
     (collect_legal g.T.Tabled.table (h g at) c.self.invariant.0 (v g at) (back g at) conn c.finish_only.new.front (does g place at)
     c.self.inside.max_steps c.push_run.new.trace refl (run g at))
 
@@ -139,4 +140,5 @@ returns-clause-finished g c =
     (history c.finish_only.new.front in'.max_steps l c.runs-runs.result c.push_collected.new.trace)) (sym all)
     (has_finished g.T.Tabled.table (h g at) c.self.invariant.0 (v g at) (back g at) c.in-Some-finish_only.conn c.finish_only.new.front is
     in'.max_steps c.push_run.new.trace refl (run g at) (left g at) c.push_collected.new.trace (pushed g place at) seen
-    c.reply_of-reply.result.0 replied (behind_both seen in'.told (Run (names_of c.done-done.result.now)) Settle c.write_all_behind.ensures.before)))))
+    c.reply_of-reply.result.0 replied
+    (behind_both seen in'.told (Run (names_of c.done-done.result.now)) Settle c.write_all_behind.ensures.before)))))

@@ -125,7 +125,8 @@ pub push_passed-requires-clause-few : goal.push_passed-requires-clause-few
 push_passed-requires-clause-few g c =
     let made = passed_so c.self.inside.front c.pass.new.self c.args.conn c.parts_of-words.result.0 c.args.words c.parts_of-words.result.1
     c.in-Ok-pass.passed.0 c.in-Ok-pass.passed.1 c.parts_of-words.ensures c.in-Ok-pass.ensures.made in
-    let takes = subst (λ o. Passes c.self.inside.front c.args.conn c.args.words c.in-Ok-pass.passed.0 o c.pass.new.self) c.in-Some-layer.is made in
+    let takes = subst
+    (λ o. Passes c.self.inside.front c.args.conn c.args.words c.in-Ok-pass.passed.0 o c.pass.new.self) c.in-Some-layer.is made in
     omega (arith, takes.few, c.packets_of-packets.ensures)
 
 pub push_passed-requires-clause-room : goal.push_passed-requires-clause-room
@@ -146,7 +147,8 @@ invariant_of-taken g c =
     let place = goal.at.invariant_of-taken g c in
     let at = place.After-write_behind in
     let all = took g place.After-write_all (begun g at) (wrote g at) in
-    subst (λ n. IsTaken g.T.Tabled.table (record { layer = c.in-Some-layer.layer; number = n; told = c.part.result })) (sym c.layers.ensures)
+    subst (λ n. IsTaken g.T.Tabled.table (record { layer = c.in-Some-layer.layer; number = n; told = c.part.result }))
+    (sym c.layers.ensures)
     (subst (λ l. IsTaken g.T.Tabled.table (record { layer = c.in-Some-layer.layer; number = c.pass.new.self.layers; told = l }))
     (sym (c.part.ensures ∙ all))
     (sealed g.T.Tabled.table (old g at) c.self.invariant.0 (left g at) c.args.conn c.args.words c.in-Ok-pass.passed.0

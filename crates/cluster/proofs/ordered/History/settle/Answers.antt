@@ -44,7 +44,8 @@ settle-requires-clause-truth g c =
 pub write_all-requires : goal.write_all-requires
 write_all-requires g c =
     let at = (goal.at.write_all-requires g c).After-executed_in in
-    subst (AreLegal g.T.Tabled.table) (sym (run_settled c.self.inside.told c.of-came.result.value c.into_parts-done.result.0 c.of-came.ensures))
+    subst (AreLegal g.T.Tabled.table)
+    (sym (run_settled c.self.inside.told c.of-came.result.value c.into_parts-done.result.0 c.of-came.ensures))
     (settle_legal g.T.Tabled.table (h g at) c.self.invariant.0 (v g at) (back g at) c.settle.new.self c.settle.ensures)
 
 pub invariant_of-self-2 : goal.invariant_of-self-2

@@ -99,13 +99,15 @@ hand_out-layer-requires-clause-waits c =
     let m = c.deliver_at_once.new.multicast in
     let passes = passes_roomless c.self.inside.multicast c.submit_and_take.new.multicast m sent.id sent.floor sent.groups c.in-Some.request
     c.in_ok-sent.ensures.same c.in-Some.ensures.passed in
-    let may = may_be_taken old c.self.invariant c.args.conn c.args.words sent has.mid has.submits quiet c.in-Some.request (roomless m) passes in (
+    let may = may_be_taken old c.self.invariant c.args.conn c.args.words sent has.mid has.submits quiet c.in-Some.request
+    (roomless m) passes in (
       may.0,
       may.1,
       has.mid,
       c.submit_and_take.new.router,
       may.2,
-      subst (λ id. TakesOut has.mid id c.submit_and_take.new.asked.items c.submit_and_take.new.router) (sym c.in-Some.ensures.named) has.takes,
+      subst (λ id. TakesOut has.mid id c.submit_and_take.new.asked.items c.submit_and_take.new.router)
+          (sym c.in-Some.ensures.named) has.takes,
     )
 
 pub invariant_of-self-2 : goal.invariant_of-self-2
@@ -137,7 +139,9 @@ returns-clause-made c =
     let passes = passes_roomless c.self.inside.multicast c.submit_and_take.new.multicast m sent.id sent.floor sent.groups c.in-Some.request
     c.in_ok-sent.ensures.same c.in-Some.ensures.passed in
     let takes = subst (λ id. TakesOut has.mid id c.submit_and_take.new.asked.items r) (sym c.in-Some.ensures.named) has.takes in
-    subst (λ v. TakesAtOnce v c.args.conn c.args.words sent.id layer (passed_front old r (roomless m) out c.len-groups.result)) c.self.view_is
-    (subst (λ n. TakesAtOnce old c.args.conn c.args.words sent.id layer (passed_front old r (roomless m) out n)) (sym c.len-groups.ensures.count)
+    subst (λ v. TakesAtOnce v c.args.conn c.args.words sent.id layer
+    (passed_front old r (roomless m) out c.len-groups.result)) c.self.view_is
+    (subst (λ n. TakesAtOnce old c.args.conn c.args.words sent.id layer (passed_front old r (roomless m) out n))
+    (sym c.len-groups.ensures.count)
     (takes_at_once old c.self.invariant c.args.conn c.args.words sent has.mid has.submits quiet c.in-Some.request (roomless m) passes r
     layer out c.hand_out-layer.ensures.out (λ t w is. c.hand_out-layer.ensures.taken t w has.mid r is takes) c.in-Some.ensures.few))

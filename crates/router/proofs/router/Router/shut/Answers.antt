@@ -18,7 +18,8 @@ returns-then-is_under_way c =
       live,
       record {
         opened = search rules;
-        at = λ d. written c.self.inside.kept.entries (c.get_mut.follows.lender (closed was)).entries n (closed was) (closed was) put.0 refl d
+        at = λ d. written c.self.inside.kept.entries (c.get_mut.follows.lender (closed was)).entries n (closed was)
+            (closed was) put.0 refl d
             ∙ ap (λ b. cond (d == n) (cond b (Some (closed was)) None) (lookup (is_at (nat_cmp d)) c.self.inside.kept.entries))
             c.if-is_under_way.ensures ∙ ap (λ v. cond (d == n) (once_closed was) (connection v d)) c.self.view_is;
         sessions = ap session_at c.self.view_is;

@@ -64,7 +64,8 @@ returns-clause-submitted c =
     let reads = c.in-Ok.ensures.plain in
     let said : (asks Free words).1 ≡ Go task = ap (λ s. s.1) (plain_asked words none) ∙ ap plain reads.2 ∙ ap Go (sym reads.1) in
     let tells = subst (λ answer. TellsOf table (next conn idle) answer (Waiting asked, groups)) (sym said)
-    (told_waiting table (next conn idle) task asked groups (looks_at_some table task c.shards-shards.ensures.is_table some) refl addressed) in
+    (told_waiting table (next conn idle) task asked groups
+    (looks_at_some table task c.shards-shards.ensures.is_table some) refl addressed) in
     let one : c.push_reserved.new.self.items ≡ asked ∷ [] =
     c.push_reserved.ensures.items ∙ ap (λ (items : List Worded). items ++ asked ∷ []) c.requires.room.0 in
     let changes = handed_over old c.hand_over.new.self conn idle c.in_ok-idle.ensures.idle c.hand_over.ensures in

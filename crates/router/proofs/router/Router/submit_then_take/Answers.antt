@@ -17,6 +17,7 @@ returns-clause-submitted c =
             subst (λ items. TakesOut mid id items new) (sym one) (sym c.take.ensures.taken ∙ w.in-Some.is, w.in-Some.ensures.changes)
         | in_default w ↦
             let none : c.match-take.taken.items ≡ [] = ap (λ v. v.items) w.taken-is ∙ c.requires.room.0 in
-            subst (λ items. TakesOut mid id items new) (sym none) (sym c.take.ensures.taken ∙ w.in_default.is, w.in_default.ensures.unchanged)
+            subst (λ items. TakesOut mid id items new) (sym none)
+            (sym c.take.ensures.taken ∙ w.in_default.is, w.in_default.ensures.unchanged)
       ];
     }
