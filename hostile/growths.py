@@ -58,6 +58,7 @@ TESTS = [
     ("system_tests", "memory::large_sets_by_two_where_memory_fails"),
     ("system_tests", "memory::same_key_twice_where_memory_fails"),
     ("system_tests", "memory::repeated_where_memory_fails"),
+    ("system_tests", "memory::list_where_memory_fails"),
     ("system_tests", "memory::own_faults_come_before_memory"),
     ("system_tests", "memory::runs_where_memory_fails"),
     ("system_tests", "memory::runs_by_a_crew_of_one_where_memory_fails"),
