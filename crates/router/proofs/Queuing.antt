@@ -9,6 +9,7 @@ use Rattle.router.specs.Lists.{is_listing, is_open_list, listed_members}
 use Rattle.sessions.specs.Control.{control_in}
 use Rattle.sessions.specs.Member.{member_of}
 use Rattle.sessions.specs.Session.{Answer, Go, asks, asked, take_up, with_member, plain}
+use Rattle.sessions.specs.declared.batch.Batch.{Batch}
 use Rattle.sessions.specs.declared.batch.Batch.TheVariants.{Exec}
 use Rattle.sessions.specs.declared.member.Member.{Member}
 use Rattle.sessions.specs.declared.session.Session.{Session}
@@ -49,6 +50,18 @@ pub queue_keeps_words : (session after : Session) (answer : Answer) (list now : 
     → members_of now ≡ Ok (listed_members after)
 queue_keeps_words session after answer list now words listed none own e kept =
     words_queued session after list now words listed own (ap (λ p. p.0) (e ∙ taken_up session words none)) kept
+
+no_run : (session : Session) (words : List Word) (batch : Batch) → is_open_list session ≡ true
+    → Go batch ≡ (take_up session (reading words)).1 → ⊥
+no_run Free words batch listed e = false≢true listed
+no_run (Listing members) words batch listed e = cc
+no_run Spoilt words batch listed e = cc
+
+-- and nothing is run of it
+pub queue_runs_none : (session after : Session) (words : List Word) (batch : Batch) → is_open_list session ≡ true
+    → control_in words ≡ None → (after, Go batch) ≡ asks session words → ⊥
+queue_runs_none session after words batch listed none e =
+    no_run session words batch listed (ap (λ p. p.1) (e ∙ taken_up session words none))
 
 -- ---- one of the three names
 
