@@ -77,7 +77,7 @@ impl<'t, F: SpanFrame> Span<'t, F> {
 
     /// The shards, to be put back where they were.
     pub fn into_shards(self) -> Vec<(GroupId, Shard)>
-        ensures same { result.items ≡ self }
+        ensures same { result.items ≡ self.entry }
         ensures shards { IsSpan F.layout F.groups result.items }
     {
         let Span {
