@@ -146,7 +146,7 @@ fn run_on_all<F: SpanFrame>(
     ensures shards { IsSpan F.layout F.groups result.1.items }
     ensures ran { HasRunOn skip.now placed (union shards.items) result.0 (union result.1.items) }
 {
-    let mut span: Span<'_, F> = Span::new(table, shards);
+    let mut span: Span<F> = Span::new(table, shards);
     let ran = placed.run(alloc, &mut span, skip, gate);
     (ran, span.into_shards())
 }

@@ -38,13 +38,13 @@ impl SpanFrame for Brand {
 ///
 /// Contracts see the list of their maps with their numbers. Its contents are the union of the maps, and it covers the
 /// keys that the table places on one of the shards. The numbers ascend.
-pub struct Span<'t, F: SpanFrame> {
-    table: &'t Table,
+pub struct Span<F: SpanFrame> {
+    table: Table,
     shards: Vec<(GroupId, Shard)>,
     frame: PhantomData<F>,
 }
 
-impl<'t, F: SpanFrame> Model for Span<'t, F> {
+impl<F: SpanFrame> Model for Span<F> {
     ghost use Rattle.std.specs.Prelude.{◌≡◌};
     ghost use Rattle.std.specs.Coded.{coded_list, coded×, coded_ℕ};
     ghost use Rattle.std.specs.FinMap.{code};
@@ -58,18 +58,20 @@ impl<'t, F: SpanFrame> Model for Span<'t, F> {
 
     ghost view = { λ s. s.shards.items };
 
-    ghost invariant = { λ s. (s.table.now ≡ F.layout) × IsSpan F.layout F.groups s.shards.items };
+    ghost invariant = { λ s. (s.table ≡ F.layout) × IsSpan F.layout F.groups s.shards.items };
 }
 
-impl<'t, F: SpanFrame> Span<'t, F> {
+impl<F: SpanFrame> Span<F> {
     /// The span of these shards, which are those of its frame.
-    pub fn new(table: &'t Table, shards: Vec<(GroupId, Shard)>) -> Self
+    // Inlined, so that the table is copied once.
+    #[inline(always)]
+    pub fn new(table: &Table, shards: Vec<(GroupId, Shard)>) -> Self
         requires table { table.now ≡ F.layout }
         requires shards { IsSpan F.layout F.groups shards.items }
         ensures { result ≡ shards.items }
     {
         Span {
-            table,
+            table: *table,
             shards,
             frame: PhantomData,
         }
@@ -77,7 +79,7 @@ impl<'t, F: SpanFrame> Span<'t, F> {
 
     /// The shards, to be put back where they were.
     pub fn into_shards(self) -> Vec<(GroupId, Shard)>
-        ensures same { result.items ≡ self.entry }
+        ensures same { result.items ≡ self }
         ensures shards { IsSpan F.layout F.groups result.items }
     {
         let Span {
@@ -130,7 +132,7 @@ impl<'t, F: SpanFrame> Span<'t, F> {
     }
 }
 
-impl<'t, F: SpanFrame> Keyspace for Span<'t, F> {
+impl<F: SpanFrame> Keyspace for Span<F> {
     ghost use Rattle.shards.specs.Joined.{union};
     ghost use Rattle.shards.specs.Spans.{lies_on};
 

@@ -13,7 +13,7 @@ loop-index-preserved g c = (
 
 pub invariant_of-self : goal.invariant_of-self
 invariant_of-self g c = (
-  ap (λ t. t.now) c.loop-index.invariant.1 ∙ c.self.invariant.0,
+  c.loop-index.invariant.1 ∙ c.self.invariant.0,
   subst (IsSpan g.F.SpanFrame.layout g.F.SpanFrame.groups) (sym c.loop-index.invariant.0)
       (span-cleared g.F.SpanFrame.layout g.F.SpanFrame.groups c.loop-index.index c.self.inside.shards.items c.self.invariant.1),
 )
