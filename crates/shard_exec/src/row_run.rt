@@ -1,6 +1,6 @@
 //! Requests that are run where their shards stand, in the row, one after another.
 
-ghost use Rattle.std.specs.Prelude.{◌≡◌, ◌<◌, length, slice_set};
+ghost use Rattle.std.specs.Prelude.{◌≡◌, ◌<◌, ◌≤◌, [], length, slice_set, vec_capacity};
 ghost use Rattle.std.specs.List.{AllByRecursion};
 ghost use Rattle.placement.specs.Layout.{IsTable};
 ghost use Rattle.shards.specs.Joined.{map_of_shard, HasOwnKeys};
@@ -87,7 +87,7 @@ pub fn run_in_row(
     run_moved(alloc, table, hasher, row, placed, span, skip, gate)
 }
 
-/// Runs a request over its shards moved out, and back.
+/// Runs a request over its shards moved out, for which `span` has room, and back.
 // A call, since most requests are of one group.
 #[inline(never)]
 fn run_moved(
@@ -104,7 +104,8 @@ fn run_moved(
     requires shards { length row.old.items ≡ table.now.shards }
     requires own { HasOwnKeys table.now row.old.items }
     requires groups { placed.job.groups ≡ task_groups table.now placed.job.asked.batch }
-    requires room { FitsAlone placed.job span }
+    requires none { span.items ≡ [] }
+    requires room { length placed.job.groups ≤ vec_capacity span }
     ensures ran { HasRunInRow table.now skip.now placed row.old.items result row.new.items }
     ensures shards { length row.new.items ≡ length row.old.items }
 {
