@@ -132,7 +132,10 @@ fn submit_and_take(
     ensures refused { IfErr result (IsRefused (connection router.old conn.0)) }
     ensures unchanged { OnErr result (router.new ≡ router.old) }
 {
-    asked.clear();
+    // Mostly it is empty, and then nothing is called.
+    if !asked.is_empty() {
+        asked.clear();
+    }
     let groups = usize::from(table.shards());
     let Ok(()) = multicast.reserve(groups) else {
         return Err(unsent(router, conn));
