@@ -132,10 +132,7 @@ fn submit_and_take(
     ensures refused { IfErr result (IsRefused (connection router.old conn.0)) }
     ensures unchanged { OnErr result (router.new ≡ router.old) }
 {
-    // Mostly it is empty, and then nothing is called.
-    if !asked.is_empty() {
-        asked.clear();
-    }
+    asked.clear();
     let groups = usize::from(table.shards());
     let Ok(()) = multicast.reserve(groups) else {
         return Err(unsent(router, conn));
