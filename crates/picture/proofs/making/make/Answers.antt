@@ -12,7 +12,7 @@ use Rattle.picture.proofs.making.make.Goals as goal
 pub returns-clause-made : goal.returns-clause-made
 returns-clause-made c = λ t most before at ran.
     let old = c.args.system.now in
-    let new = c.step.new.self in
+    let new = c.step-2.new.self in
     let index = c.args.index in
     let step = c.args.step in
     let effect = c.in-Ok.effect in
