@@ -38,6 +38,8 @@ pub fn read(request: Request) -> Result<Command, Refusal>
 }
 
 /// Reads the words behind a name in lower case by the rows of its family.
+// Inlined, so that the command is moved once.
+#[inline(always)]
 fn read_by_row(name: &[u8], words: Vec<Vec<u8>>) -> Result<Command, Refusal>
     ensures { result ≡ unwrap_or (reading_among rows name.now (texts_of words.items)) (Err Unknown) }
 {

@@ -14,6 +14,8 @@ pub(crate) struct RowHead {
 }
 
 /// The place among rows with these heads of the one of this name, where it takes so many words.
+// Inlined, since its callers' heads are constants.
+#[inline(always)]
 pub(crate) fn place_of(heads: &[RowHead], name: &[u8], words: usize) -> Result<usize, Refusal>
     ensures { result ≡ place_from 0 (heads_held heads.now) name.now words }
 {

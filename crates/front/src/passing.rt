@@ -132,7 +132,10 @@ fn submit_and_take(
     ensures refused { IfErr result (IsRefused (connection router.old conn.0)) }
     ensures unchanged { OnErr result (router.new ≡ router.old) }
 {
-    asked.clear();
+    // Mostly it is empty, and then nothing is called.
+    if !asked.is_empty() {
+        asked.clear();
+    }
     let groups = usize::from(table.shards());
     let Ok(()) = multicast.reserve(groups) else {
         return Err(unsent(router, conn));
@@ -231,7 +234,10 @@ fn room_for_one(out: &mut Vec<Delivered>, jobs: &mut Vec<Job>) -> Result<(), All
     ensures room { OnOk result (length out.new.items + 1 ≤ vec_capacity out.new) }
     ensures no_jobs { OnOk result ((jobs.new.items ≡ []) × (1 ≤ vec_capacity jobs.new)) }
 {
-    jobs.clear();
+    // As above.
+    if !jobs.is_empty() {
+        jobs.clear();
+    }
     out.reserve(1)?;
     jobs.reserve(1)
 }

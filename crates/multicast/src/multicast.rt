@@ -145,10 +145,7 @@ impl Multicast {
         if groups.len() == 0 {
             return None;
         }
-        let (stamp, are_known) = greatest_offer(&self.groups, &self.queues, id, floor, groups)?;
-        if !settle(&mut self.groups, id, stamp.clock, groups, are_known) {
-            return None;
-        }
+        let stamp = settle_at_once(&mut self.groups, &self.queues, id, floor, groups)?;
         Some(Delivered { id, stamp, groups })
     }
 
@@ -318,6 +315,58 @@ fn append_all(queues: &mut Queues, group: GroupId, delivered: Vec<Delivered>)
     }
 }
 
+/// Each of these groups delivers the request, where it is alone there, at the greatest stamp that they would propose for it. None where
+/// it isn't alone, or where one of several has delivered none of its connection before, or where there is no memory for the first one of
+/// a connection; nothing changes then.
+#[inline]
+fn settle_at_once(
+    groups: &mut Vec<Group>,
+    queues: &Queues,
+    id: RequestId,
+    floor: u64,
+    addressed: Groups,
+) -> Option<Stamp>
+    requires there { (g : ℕ) → has addressed g ≡ true → g < length groups.old.items }
+    requires clocks { (g : ℕ) → has addressed g ≡ true → (group_of groups.old.items g).clock ≤ GREATEST_CLOCK }
+    requires floor { (g : ℕ) → has addressed g ≡ true → floor ≤ GREATEST_CLOCK }
+    ensures alone { IfSome result (IsAlone groups.old.items queues.now.queues id floor addressed) }
+    ensures settled { IfSome result (λ s. AreSettled groups.old.items id s.clock addressed groups.new.items) }
+    ensures unchanged { IfNone result (groups.new.items ≡ groups.old.items) }
+{
+    if let Some(group) = addressed.alone() {
+        return settle_at(groups, queues, id, floor, group);
+    }
+    let (stamp, are_known) = greatest_offer(groups, queues, id, floor, addressed)?;
+    if !are_known {
+        return None;
+    }
+    settle_all(groups, id, stamp.clock, addressed);
+    Some(stamp)
+}
+
+/// The same of one group, which looks the connection up once.
+#[inline]
+fn settle_at(
+    groups: &mut Vec<Group>,
+    queues: &Queues,
+    id: RequestId,
+    floor: u64,
+    group: GroupId,
+) -> Option<Stamp>
+    requires there { group < length groups.old.items }
+    requires clock { (group_of groups.old.items group).clock ≤ GREATEST_CLOCK }
+    requires floor { floor ≤ GREATEST_CLOCK }
+    ensures alone { IfSome result (IsAlone groups.old.items queues.now.queues id floor (group ∷ [])) }
+    ensures settled { IfSome result (λ s. AreSettled groups.old.items id s.clock (group ∷ []) groups.new.items) }
+    ensures unchanged { IfNone result (groups.new.items ≡ groups.old.items) }
+{
+    if queues.queued(group) != 0 {
+        return None;
+    }
+    let clock = groups[usize::from(group.number())].pass(id, floor)?;
+    Some(Stamp { clock, group })
+}
+
 /// The greatest stamp that its groups would propose for a request that is alone, if it is; and whether each of them has delivered an
 /// earlier one of its connection.
 #[inline]
@@ -354,29 +403,6 @@ fn greatest_offer(
     Some((greatest, are_known))
 }
 
-/// Each of these groups delivers the request, which is alone there, at a stamp of this clock, where each has delivered an earlier one of
-/// its connection, or where it addresses one alone and there is memory; whether they did. Else nothing changes.
-#[inline]
-fn settle(
-    groups: &mut Vec<Group>,
-    id: RequestId,
-    clock: u64,
-    addressed: Groups,
-    are_known: bool,
-) -> bool
-    requires there { (g : ℕ) → has addressed g ≡ true → g < length groups.old.items }
-    requires known { are_known ≡ true → (g : ℕ) → has addressed g ≡ true → IsSome (get (group_of groups.old.items g).reached id.conn.0) }
-    requires low { (g : ℕ) → has addressed g ≡ true → (group_of groups.old.items g).clock ≤ clock }
-    ensures settled { result ≡ true → AreSettled groups.old.items id clock addressed groups.new.items }
-    ensures unchanged { result ≡ false → groups.new.items ≡ groups.old.items }
-{
-    if are_known {
-        settle_all(groups, id, clock, addressed);
-        return true;
-    }
-    settle_alone(groups, id, clock, addressed)
-}
-
 /// Each of these groups delivers the request, which is alone there, at a stamp of this clock.
 #[inline]
 fn settle_all(groups: &mut Vec<Group>, id: RequestId, clock: u64, addressed: Groups)
@@ -392,20 +418,4 @@ fn settle_all(groups: &mut Vec<Group>, id: RequestId, clock: u64, addressed: Gro
             unreachable!()
         };
     }
-}
-
-/// Where it addresses one group alone, this group delivers the request, which is alone there, at a stamp of this clock, if there is
-/// memory for it; whether it did. Else nothing changes.
-fn settle_alone(groups: &mut Vec<Group>, id: RequestId, clock: u64, addressed: Groups) -> bool
-    requires there { (g : ℕ) → has addressed g ≡ true → g < length groups.old.items }
-    requires low { (g : ℕ) → has addressed g ≡ true → (group_of groups.old.items g).clock ≤ clock }
-    ensures settled { result ≡ true → AreSettled groups.old.items id clock addressed groups.new.items }
-    ensures unchanged { result ≡ false → groups.new.items ≡ groups.old.items }
-{
-    let Some(group) = addressed.alone() else {
-        return false;
-    };
-    groups[usize::from(group.number())]
-        .settle(id, clock)
-        .is_ok()
 }

@@ -1,6 +1,7 @@
 //! Numbers below 2^64, in one, five or nine bytes.
 
-ghost use Rattle.std.specs.Prelude.{◌≡◌, ◌+◌, ◌≤◌, ◌<◌, ◌++◌, length, vec_len, vec_capacity};
+ghost use Rattle.std.specs.Prelude.{◌≡◌, ◌+◌, ◌≤◌, ◌<◌, [], ◌∷◌, ◌++◌, length, take, vec_len, vec_capacity};
+ghost use Rattle.packing.specs.declared.number.TheConstants.{FOUR_BYTES};
 ghost use Rattle.packing.specs.Codes.{number_code, number_at};
 
 /// The byte before a number of four bytes. Below it a number is its own one byte.
@@ -53,6 +54,66 @@ pub fn put_bytes(bytes: &[u8], out: &mut Vec<u8>)
     ensures capacity { vec_capacity out.old ≤ vec_capacity out.new }
 {
     let _ = out.extend_from_slice(bytes);
+}
+
+/// Writes the number over the bytes at this place, and gives the place behind it.
+#[tactic(auto, using(crate::specs::CodeLaws::number_codes))]
+// Inlined, since most numbers are of one byte.
+#[inline(always)]
+pub(crate) fn write_number(number: u64, out: &mut [u8], at: usize) -> usize
+    requires { at + length (number_code number) ≤ length out.old }
+    ensures end { result ≡ at + length (number_code number) }
+    ensures len { length out.new ≡ length out.old }
+    ensures written { take result out.new ≡ take at out.old ++ number_code number }
+{
+    if number < FOUR_BYTES as u64 {
+        return write_byte(number as u8, out, at);
+    }
+    write_large(number, out, at)
+}
+
+/// The same of a number that takes more than one byte.
+#[tactic(auto, using(crate::specs::CodeLaws::number_codes))]
+// A call, since few do.
+#[inline(never)]
+fn write_large(number: u64, out: &mut [u8], at: usize) -> usize
+    requires large { FOUR_BYTES ≤ number }
+    requires room { at + length (number_code number) ≤ length out.old }
+    ensures end { result ≡ at + length (number_code number) }
+    ensures len { length out.new ≡ length out.old }
+    ensures written { take result out.new ≡ take at out.old ++ number_code number }
+{
+    if number <= u32::MAX as u64 {
+        let behind = write_byte(FOUR_BYTES, out, at);
+        return write_bytes(&(number as u32).to_le_bytes(), out, behind);
+    }
+    let behind = write_byte(EIGHT_BYTES, out, at);
+    write_bytes(&number.to_le_bytes(), out, behind)
+}
+
+/// Writes a byte at this place, and gives the place behind it.
+#[inline(always)]
+fn write_byte(byte: u8, out: &mut [u8], at: usize) -> usize
+    requires { at < length out.old }
+    ensures end { result ≡ at + 1 }
+    ensures len { length out.new ≡ length out.old }
+    ensures written { take result out.new ≡ take at out.old ++ byte ∷ [] }
+{
+    out[at] = byte;
+    at + 1
+}
+
+/// Writes these bytes over those at this place, and gives the place behind them.
+#[inline(always)]
+pub(crate) fn write_bytes(bytes: &[u8], out: &mut [u8], at: usize) -> usize
+    requires { at + length bytes.now ≤ length out.old }
+    ensures end { result ≡ at + length bytes.now }
+    ensures len { length out.new ≡ length out.old }
+    ensures written { take result out.new ≡ take at out.old ++ bytes.now }
+{
+    let end = at + bytes.len();
+    out[at..end].copy_from_slice(bytes);
+    end
 }
 
 /// The number at the front of the bytes, and the bytes behind it. Bytes that `put_number` didn't write give some

@@ -6,7 +6,7 @@ ghost use Rattle.std.specs.List.{AllByRecursion};
 
 use crate::number::{number_size, put_bytes, put_number};
 use crate::packed_list::PackedList;
-use crate::words::{put_words, words_size};
+use crate::words::{put_words, words_size, write_words};
 use resp::Request;
 use std::alloc::{AllocError, Global};
 use std::marker::Model;
@@ -39,6 +39,8 @@ impl PackedRequest {
 
     /// A copy of the words in a buffer that was used before, which takes no memory where there is room in it; `AllocError`
     /// where there is none for it.
+    // Inlined, since most words are few and short.
+    #[inline(always)]
     pub fn copy_into(buffer: Vec<u8>, words: &Request) -> Result<Self, AllocError>
         ensures copied { IfOk result (λ copy. copy ≡ words.now) }
         ensures room { length (words_code words.now) ≤ vec_capacity buffer → IsOk result }
@@ -47,9 +49,12 @@ impl PackedRequest {
             return Err(AllocError);
         };
         let mut bytes = buffer;
-        bytes.clear();
-        bytes.reserve_exact(size)?;
-        put_words(words, &mut bytes);
+        if bytes.capacity() < size {
+            bytes.clear();
+            bytes.reserve_exact(size)?;
+        }
+        bytes.resize(size, 0)?;
+        write_words(words, bytes.as_mut_slice());
         Ok(PackedRequest { bytes })
     }
 

@@ -4,11 +4,12 @@ ghost use Rattle.std.specs.Prelude.{◌≡◌, ◌+◌, ◌≤◌, ◌<◌, ◌^
 ghost use Rattle.texts.specs.Texts.{texts_of};
 ghost use Rattle.packing.specs.Codes.{word_code, word_at, words_code, words_at, WordFits, WordsFit};
 
-use crate::number::{number_size, put_bytes, put_number, take_number};
+use crate::number::{number_size, put_bytes, put_number, take_number, write_bytes, write_number};
 use resp::Request;
 use std::alloc::{AllocError, Global};
 
 /// How many bytes the words take; `None` where that is 2^64 or more.
+#[inline(always)]
 pub fn words_size(words: &Request) -> Option<usize>
     ensures { MatchOption result (2 ^ 64 ≤ length (words_code words.now))
         (λ size. (size ≡ length (words_code words.now)) × WordsFit words.now) }
@@ -42,6 +43,21 @@ pub fn put_words(words: &Request, out: &mut Vec<u8>)
         let word = words.word(place);
         put_number(word.len() as u64, out);
         put_bytes(word, out);
+    }
+}
+
+/// Writes the words over these bytes, which are as many: what is appended is looked at for room each time, and here none is needed.
+// Inlined, since most words are few and short.
+#[inline(always)]
+pub(crate) fn write_words(words: &Request, out: &mut [u8])
+    requires { length out.old ≡ length (words_code words.now) }
+    ensures { out.new ≡ words_code words.now }
+{
+    let mut at = write_number(words.len() as u64, out, 0);
+    for place in 0..words.len() {
+        let word = words.word(place);
+        at = write_number(word.len() as u64, out, at);
+        at = write_bytes(word, out, at);
     }
 }
 

@@ -199,6 +199,8 @@ impl Router {
     }
 
     /// The next request of an idle connection is out. It takes no memory.
+    // Inlined, since it has one caller.
+    #[inline(always)]
     fn hand_over(&mut self, id: RequestId)
         requires { (v : Connection) × (connection self.old id.conn.0 ≡ Some v) × (v.standing ≡ Bare) }
         ensures { (v : Connection) × (connection self.old id.conn.0 ≡ Some v) × Changes self.old self.new id.conn.0

@@ -80,6 +80,8 @@ fn run_one(
 }
 
 /// Why a layer isn't run for whose results there is no memory: where it is stale as well, that comes first.
+// A call, since it is rare.
+#[inline(never)]
 fn unrun(store: &Store, layer: Layer) -> ExecFault
     requires { AddressTheirGroups store.now.table layer }
     ensures { WhyUnrun store.now layer result }

@@ -14,6 +14,7 @@ use layer_planner::Job;
 use packing::PackedRequest;
 use placement::Table;
 use resp::Answered;
+use sessions::Batch;
 use shards::{Shard, Span, SpanFrame};
 use std::alloc::Global;
 use std::marker::Brand;
@@ -69,6 +70,7 @@ impl PlacedJob {
         } = job;
         let (words, batch) = asked.into_parts();
         if names_whole(skip, &id) {
+            discard(batch);
             return JobRan {
                 place,
                 id,
@@ -110,6 +112,11 @@ impl PlacedJob {
         run_on_all::<Brand>(alloc, table, shards, self, skip, gate)
     }
 }
+
+/// Lets a batch go.
+// A call, since it comes seldom.
+#[inline(never)]
+fn discard(_batch: Batch) {}
 
 /// Runs a request over the one shard that is there.
 fn run_on_one(

@@ -192,13 +192,11 @@ impl<T: Tabled, L: Server> Shared<T, L> {
         ensures unchanged { OnErr result (seat.new ≡ seat.old) }
     {
         if takes_long(taken.layer()) {
-            return self.turn_until_replied(rt, seat, Hand::Taken(taken));
+            return self.turn_from_taken(rt, seat, taken);
         }
         let ran = match self.run_in_store(rt, taken, &InTurn(NonZeroUsize::MIN), &OpenGate) {
             Run::Handed(ran) => ran,
-            Run::Starved(taken) => {
-                return self.turn_until_replied(rt, seat, Hand::Taken(taken));
-            }
+            Run::Starved(taken) => return self.turn_from_taken(rt, seat, taken),
             Run::Refused(why) => {
                 let fault = self.front.lock(rt).stop(why);
                 self.wake_all();
@@ -207,13 +205,58 @@ impl<T: Tabled, L: Server> Shared<T, L> {
         };
         match self.settle_then_collect(rt, seat, ran) {
             Ok(Settled::Gives(Some(reply))) => Ok(reply),
-            Ok(Settled::Gives(None)) => self.turn_until_replied(rt, seat, Hand::Free),
-            Ok(Settled::Starved(ran)) => self.turn_until_replied(rt, seat, Hand::HasRun(ran)),
+            Ok(Settled::Gives(None)) => self.turn_from_free(rt, seat),
+            Ok(Settled::Starved(ran)) => self.turn_from_run(rt, seat, ran),
             Err(fault) => {
                 self.wake_all();
                 Err(fault)
             }
         }
+    }
+
+    /// Makes turns, from this layer on, until what came of the seat's last request is there.
+    // A call, as are the next two, since it is rare: their caller has no room to fill for a hand.
+    #[inline(never)]
+    fn turn_from_taken<R: Wait + Clock>(
+        &self,
+        rt: &R,
+        seat: &mut Seat<T, L>,
+        taken: Taken<T, L>,
+    ) -> Result<SealedReply, AskFault>
+        ensures replied { IfOk result (λ r. IsCollected T.table seat.old (content r.reply) seat.new) }
+        ensures refused { IfErr result (IsCollectFault seat.old) }
+        ensures unchanged { OnErr result (seat.new ≡ seat.old) }
+    {
+        self.turn_until_replied(rt, seat, Hand::Taken(taken))
+    }
+
+    /// The same from what came of a layer.
+    #[inline(never)]
+    fn turn_from_run<R: Wait + Clock>(
+        &self,
+        rt: &R,
+        seat: &mut Seat<T, L>,
+        ran: Ran<T, L>,
+    ) -> Result<SealedReply, AskFault>
+        ensures replied { IfOk result (λ r. IsCollected T.table seat.old (content r.reply) seat.new) }
+        ensures refused { IfErr result (IsCollectFault seat.old) }
+        ensures unchanged { OnErr result (seat.new ≡ seat.old) }
+    {
+        self.turn_until_replied(rt, seat, Hand::HasRun(ran))
+    }
+
+    /// The same with a hand that is free.
+    #[inline(never)]
+    fn turn_from_free<R: Wait + Clock>(
+        &self,
+        rt: &R,
+        seat: &mut Seat<T, L>,
+    ) -> Result<SealedReply, AskFault>
+        ensures replied { IfOk result (λ r. IsCollected T.table seat.old (content r.reply) seat.new) }
+        ensures refused { IfErr result (IsCollectFault seat.old) }
+        ensures unchanged { OnErr result (seat.new ≡ seat.old) }
+    {
+        self.turn_until_replied(rt, seat, Hand::Free)
     }
 
     /// Makes turns until what came of the seat's last request is there. It is collected by a hand that is free, and looked for at

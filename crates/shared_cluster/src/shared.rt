@@ -566,6 +566,8 @@ impl<T: Tabled, L: Server> Shared<T, L> {
     }
 
     /// Wakes the seats of all whose outcomes come with this.
+    // Inlined, as is the next, since mostly no one waits.
+    #[inline(always)]
     pub(crate) fn wake_outcomes(&self, done: &Done) {
         if self.done.is_empty() && self.idle.is_empty() {
             return;
@@ -583,6 +585,7 @@ impl<T: Tabled, L: Server> Shared<T, L> {
 
     /// Wakes, behind a Settle, those who may bring on what is ready now: who drives, and the seats of the requests at the heads
     /// of the queues, one of which is ready. Where it is shut it may have been the last one.
+    #[inline(always)]
     pub(crate) fn wake_next(&self, held: &Held<T, L>) {
         let front = held.cluster.front();
         if held.shut {

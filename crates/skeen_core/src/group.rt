@@ -1,6 +1,6 @@
 //! One group: what it does with the packets that come to it. The system hands it each packet that is for it, sends what
 //! it sends, and puts what it delivers in its queue.
-ghost use Rattle.std.specs.Prelude.{◌≡◌, ◌+◌, ◌≤◌, ◌<◌, ◌^◌, ◌↔◌, true, IsOk, IsSome, IsTrue, length, IfOk, OnErr, OnOk, IfSome};
+ghost use Rattle.std.specs.Prelude.{◌≡◌, ◌+◌, ◌≤◌, ◌<◌, ◌^◌, ◌↔◌, true, IsOk, IsSome, IsTrue, length, IfOk, OnErr, OnOk, IfSome, IfNone};
 ghost use Rattle.std.specs.FinMap.{get, len};
 ghost use Rattle.skeen_core.specs.Group.{fresh, MayCome, Receives, CountsKept};
 ghost use Rattle.skeen_core.specs.Offers.{Offers, settled};
@@ -111,6 +111,25 @@ impl Group {
         self.reached.put(id)?;
         self.agreement.raise(clock);
         Ok(())
+    }
+
+    /// A request that is alone is delivered at the clock that the group would propose for it, where no request has started, and nothing
+    /// of this one came before. None else, or where there is no memory for the first one of its connection; nothing changes then.
+    #[inline]
+    pub fn pass(&mut self, id: RequestId, floor: u64) -> Option<u64>
+        requires clock { self.old.state.clock ≤ GREATEST_CLOCK }
+        requires floor { floor ≤ GREATEST_CLOCK }
+        ensures me { self.new.me ≡ self.old.me }
+        ensures offers { IfSome result (Offers self.old.state id floor) }
+        ensures settled { IfSome result (λ clock. self.new.state ≡ settled self.old.state id clock) }
+        ensures unchanged { IfNone result (self.new ≡ self.old) }
+    {
+        let clock = self.agreement.offer(id, floor)?;
+        if !self.reached.pass(id) {
+            return None;
+        }
+        self.agreement.raise(clock);
+        Some(clock)
     }
 
     /// The group's clock: at least that of every stamp that it proposed or settled.

@@ -101,6 +101,26 @@ impl Reached {
         self.put_first(id)
     }
 
+    /// The request is delivered where none of its connection that is as late was; whether it is. It isn't either where it is the first
+    /// of its connection and there is no memory for it. Nothing but the room changes then.
+    #[inline]
+    pub fn pass(&mut self, id: RequestId) -> bool
+        ensures later { result ≡ true → is_up_to (get self.old.numbers id.conn.0) id.seq ≡ false }
+        ensures numbers { result ≡ true → self.new.numbers
+            ≡ insert self.old.numbers id.conn.0 (max (or_zero (get self.old.numbers id.conn.0)) id.seq) }
+        ensures unchanged { result ≡ false → self.new.numbers ≡ self.old.numbers }
+    {
+        if let Some(number) = self.numbers.get_mut(&id.conn.0) {
+            let is_later = *number < id.seq;
+            *number = (*number).max(id.seq);
+            return is_later;
+        }
+        let Ok(()) = self.put_first(id) else {
+            return false;
+        };
+        true
+    }
+
     // The same for the first of its connection: a call, as it comes once a connection.
     #[inline(never)]
     fn put_first(&mut self, id: RequestId) -> Result<(), AllocError>

@@ -13,7 +13,7 @@ use sessions::{Batch, Member};
 
 /// The groups that a batch addresses: the shards of its commands' keys, every shard where one of them is for all keys, and none
 /// where none has a key. They ascend, each once. It takes no memory.
-#[inline]
+#[inline(always)]
 pub fn task_groups(table: &Table, batch: &Batch) -> Groups
     ensures { result ≡ tasks.task_groups table.now batch.now }
 {

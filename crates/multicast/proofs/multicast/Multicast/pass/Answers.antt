@@ -1,23 +1,11 @@
-use Rattle.std.proofs.Common.{◌≡◌, [], Some, sym, subst, arith}
+use Rattle.std.proofs.Common.{◌≡◌, [], sym, subst, arith}
 use Rattle.delivery.specs.Queues.{queue_of}
 use Rattle.delivery.specs.Ready.{IsReady}
-use Rattle.groups.proofs.Options.{some_same}
-use Rattle.groups.proofs.Stamps.{clocks_le, final_above}
-use Rattle.multicast.proofs.Exchange.{offered}
 use Rattle.multicast.proofs.Passing.{passes}
 use Rattle.multicast.specs.Multicast.{MulticastView, MayBeDelivered, Passes}
 use Rattle.skeen_core.specs.declared.packet.Body.TheVariants.{Start}
 use Rattle.skeen_core.specs.declared.packet.Delivered.{Delivered}
 use Rattle.multicast.proofs.multicast.Multicast.pass.Goals as goal
-
-pub settle-requires-clause-low : goal.settle-requires-clause-low
-settle-requires-clause-low c = λ g member.
-    let gs = c.self.inside.groups.items in
-    let s = c.in_ok-stamp.stamp in
-    let own = final_above (λ h. Some (offered gs c.args.floor h)) c.args.groups s g c.in_ok-stamp.ensures.alone.greatest member in
-    let below = clocks_le (record { clock = own.clock; group = g }) s own.within in
-    let same = some_same (offered gs c.args.floor g) own.clock own.heard in
-    omega (arith, below, same)
 
 pub returns-clause-passed : goal.returns-clause-passed
 returns-clause-passed c =
@@ -26,7 +14,7 @@ returns-clause-passed c =
     let qs = c.self.inside.queues.queues in
     let room = c.self.inside.links.room in
     let s = c.in_ok-stamp.stamp in
-    let finals = c.settle.new.groups.items in
+    let finals = c.settle_at_once.new.groups.items in
     let d : Delivered = record { id = c.args.id; stamp = s; groups = c.args.groups } in
     subst (λ (v : MulticastView). Passes v c.args.id c.args.floor c.args.groups d
     (record { groups = finals; packets = ps; queues = qs; room = room })) c.self.view_is
@@ -40,5 +28,5 @@ returns-clause-passed c =
       none_ready = subst (λ (v : MulticastView). (e : Delivered) → IsReady (queue_of v.queues) e → ⊥) (sym c.self.view_is)
           c.requires.none_ready;
       alone = c.in_ok-stamp.ensures.alone;
-      settles = c.settle.ensures.settled c.if-not-settle.false;
+      settles = c.in_ok-stamp.ensures.settled;
     }))
