@@ -53,7 +53,10 @@ impl PackedRequest {
             bytes.clear();
             bytes.reserve_exact(size)?;
         }
-        bytes.resize(size, 0)?;
+        if bytes.len() < size {
+            bytes.resize(size, 0)?;
+        }
+        bytes.truncate(size);
         write_words(words, bytes.as_mut_slice());
         Ok(PackedRequest { bytes })
     }

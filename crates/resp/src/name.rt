@@ -103,7 +103,7 @@ impl Name {
         let place = match self.place {
             Place::Inline { len, bytes } => Place::Inline {
                 len,
-                bytes: short_lower_case(bytes),
+                bytes: short_lower_case(len, bytes),
             },
             Place::Heap(bytes) => Place::Heap(long_lower_case(bytes)),
         };
@@ -111,12 +111,13 @@ impl Name {
     }
 }
 
-/// The bytes of a short name in lower case, and those that count for nothing: so many as are known beforehand take no loop.
+/// The first so many bytes in lower case, before the others.
 #[inline(always)]
-fn short_lower_case(mut bytes: [u8; INLINE_BYTES]) -> [u8; INLINE_BYTES]
-    ensures { result ≡ map to_ascii_lowercase bytes }
+fn short_lower_case(len: usize, mut bytes: [u8; INLINE_BYTES]) -> [u8; INLINE_BYTES]
+    requires { len ≤ INLINE_BYTES }
+    ensures { take len result ≡ map to_ascii_lowercase (take len bytes) }
 {
-    bytes.make_ascii_lowercase();
+    bytes[..len].make_ascii_lowercase();
     bytes
 }
 

@@ -111,9 +111,11 @@ impl Reached {
         ensures unchanged { result ≡ false → self.new.numbers ≡ self.old.numbers }
     {
         if let Some(number) = self.numbers.get_mut(&id.conn.0) {
-            let is_later = *number < id.seq;
-            *number = (*number).max(id.seq);
-            return is_later;
+            if id.seq <= *number {
+                return false;
+            }
+            *number = id.seq;
+            return true;
         }
         let Ok(()) = self.put_first(id) else {
             return false;
