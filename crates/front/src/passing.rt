@@ -103,12 +103,20 @@ impl Front {
         ensures { self.new ≡ self.old }
     {
         if jobs.capacity() <= GREATEST_KEPT {
-            self.jobs = jobs;
+            let_go(mem::replace(&mut self.jobs, jobs));
         }
         let buffer = words.into_buffer();
         if buffer.capacity() <= GREATEST_BUFFER {
             self.buffer = buffer;
         }
+    }
+}
+
+/// Lets go of a list of jobs. One without room has nothing, and nothing is called for it.
+#[inline(always)]
+fn let_go(jobs: Vec<Job>) {
+    if jobs.capacity() == 0 {
+        mem::forget(jobs);
     }
 }
 
